@@ -119,7 +119,7 @@ share-le most interval some few =
     (λ _. omega (arith, each, div-le_self (delta * interval.count) interval.occupation)) (λ _. one)
 
 -- the open interval, where it began then
-abbrev open_since : RoomState → ℕ → Interval
+abbrev pub open_since : RoomState → ℕ → Interval
 open_since room start = record { from = start; to = room.clock; count = room.forced; occupation = room.occupation; charged = charged room }
 
 -- So what the open interval charges a task is at most the time, times the siblings.
@@ -373,7 +373,7 @@ module _ (most done : ℕ) (some : 1 ≤ most) (room : RoomState) (few : length 
   accounted-unless_offline : (cpu : ℕ) (stepped : Stepped) → GoesOn stepped → GoesOn (unless_offline room cpu stepped)
   accounted-unless_offline cpu stepped made = cond_both (is_online room cpu) _ _ GoesOn (λ _. made) (λ _. stays)
 
-  accounted-step : (may_adopt : Bool) (event : Event) → IsEvent (length room.siblings) event → GoesOn (step room may_adopt event)
+  pub accounted-step : (may_adopt : Bool) (event : Event) → IsEvent (length room.siblings) event → GoesOn (step room may_adopt event)
   accounted-step may_adopt (Turn cpu) below = accounted-unless_offline cpu _ (accounted-turn may_adopt cpu below)
   accounted-step may_adopt (Resched cpu) below = accounted-unless_offline cpu _ (accounted-schedule may_adopt cpu below)
   accounted-step may_adopt (Block cpu) below = accounted-unless_offline cpu _ (accounted-block cpu (running_on room cpu) below)
@@ -407,14 +407,10 @@ pub total_of-none : (pid : ℕ) → total_of pid [] ≡ 0
 unfolding total_of
 total_of-none pid = refl
 
--- After every history whose events keep their limits the account comes no further than that.
-pub accounted-fold_of : (most : ℕ) (opening : Opening) (history : History) → 1 ≤ most → opening.scenario.siblings ≤ most →
-    All (λ entry. IsEvent opening.scenario.siblings entry.event) history → IsAccounted most (length history) (account_of (fold_of opening history))
-accounted-fold_of most opening history some few limits =
-    subst (λ n. IsAccounted most n (account_of (fold_of opening history))) (omega arith)
-    (accounted_after most 0 opening.scenario.siblings (beginning opening) history some few (length-replicate opening.scenario.siblings idle)
-    (recursion_from_All (λ entry. IsEvent opening.scenario.siblings entry.event) history limits)
-    (record {
+-- At the start nothing has been charged.
+pub accounted-beginning : (most : ℕ) (opening : Opening) → IsAccounted most 0 (account_of (beginning opening).room)
+accounted-beginning most opening =
+    record {
       started = omega arith;
       few = omega arith;
       totals = λ pid. omega (arith, total_of-none pid);
@@ -422,4 +418,12 @@ accounted-fold_of most opening history some few limits =
       opened = tt;
       occupied = λ none. none;
       divisors = All-nil HasDivisor;
-    }))
+    }
+
+-- After every history whose events keep their limits the account comes no further than that.
+pub accounted-fold_of : (most : ℕ) (opening : Opening) (history : History) → 1 ≤ most → opening.scenario.siblings ≤ most →
+    All (λ entry. IsEvent opening.scenario.siblings entry.event) history → IsAccounted most (length history) (account_of (fold_of opening history))
+accounted-fold_of most opening history some few limits =
+    subst (λ n. IsAccounted most n (account_of (fold_of opening history))) (omega arith)
+    (accounted_after most 0 opening.scenario.siblings (beginning opening) history some few (length-replicate opening.scenario.siblings idle)
+    (recursion_from_All (λ entry. IsEvent opening.scenario.siblings entry.event) history limits) (accounted-beginning most opening))

@@ -12,6 +12,7 @@ pub mod Timely
 pub mod Times
 pub mod Queues
 pub mod Accounts
+pub mod Shares
 pub mod Rising
 pub mod Drains
 pub mod Measures

@@ -235,7 +235,7 @@ online_after_selection room cpu core other below up =
     sibling_of-select_for room cpu core other below ∙ cond-true (is_online room other) _ (sibling_of room other) up
 
 -- An online sibling is to run its choice.
-to_run-sibling_after_selection : (room : RoomState) (core selector cpu : ℕ) (sibling : SiblingState) →
+pub to_run-sibling_after_selection : (room : RoomState) (core selector cpu : ℕ) (sibling : SiblingState) →
     to_run (sibling_after_selection room core selector cpu sibling) ≡ pid_of (choice room core cpu)
 to_run-sibling_after_selection room core selector cpu sibling = by_tests (cpu == selector) (is_run sibling.run run) refl where
   run : Option ℕ

@@ -1,7 +1,7 @@
 -- Accounting: the intervals in which siblings are forced idle, who is charged for them, and how much
 -- (`__sched_core_account_forceidle`, kernel/sched/core_sched.c). There is no running total: there is what an auditor
 -- would write down, interval by interval.
-use Rattle.std.specs.Prelude.{ℕ, ◌-◌, ◌*◌, ◌/◌, Bool, ◌==◌, ◌||◌, nat_lt, if◌then◌else◌, List, ◌++◌, filter, sum_by, Option, Some, None}
+use Rattle.std.specs.Prelude.{ℕ, ◌-◌, ◌*◌, ◌/◌, Bool, ◌==◌, ◌||◌, nat_lt, if◌then◌else◌, List, ◌++◌, length, filter, sum_by, Option, Some, None}
 use Rattle.std.specs.List.{list_any, filter_map}
 use Rattle.std.specs.Option.{option_map, option_and_then, option_to_list}
 use Rattle.cs_types.specs.declared.task.Task.{Task}
@@ -17,6 +17,14 @@ share interval =
     if nat_lt 1 interval.count || nat_lt 1 interval.occupation
     then delta * interval.count / interval.occupation
     else delta
+
+-- what an interval charges in all: its share, for each task that it charges
+abbrev pub charged_time : Interval → ℕ
+charged_time interval = length interval.charged * share interval
+
+-- its forced-idle time: its time, for each sibling that was forced idle in it
+abbrev pub forced_time : Interval → ℕ
+forced_time interval = (interval.to - interval.from) * interval.count
 
 -- whether an interval charges the task with the pid
 abbrev pub charges : ℕ → Interval → Bool

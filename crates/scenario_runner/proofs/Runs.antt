@@ -11,10 +11,10 @@ use Rattle.cs_types.specs.declared.event.Step.{Step}
 use Rattle.cs_types.specs.declared.reply.Entry.{Entry}
 use Rattle.cs_types.specs.Room.{Opening, RoomState}
 use Rattle.cs_types.specs.Scenario.{IsEvent, IsMadeBy, IsStep, IsPlayable, is_actor}
-use Rattle.cs_types.specs.Accounting.{total_of}
 use Rattle.cs_types.specs.History.{History, AreEvents, IsLegal, moment_of, fold_of, history_of, events_by, file}
 use Rattle.cs_types.specs.Drain.{IsDrained}
 use Rattle.cs_types.proofs.Accounts.{accounted-fold_of}
+use Rattle.cs_types.proofs.Shares.{shared-fold_of}
 use Rattle.cs_types.proofs.Foremost.{each_weaker}
 use Rattle.cs_types.proofs.Histories.{IsLegal-history_of, events_by-file}
 use Rattle.cs_types.proofs.Selections.{selects}
@@ -187,11 +187,13 @@ are_made opening shuffled run playable shuffle drained =
 
 -- the totals of a room divide its intervals
 divides : (opening : Opening) (history : History) → IsPlayable opening.scenario → AreEvents opening history → DividesIntervals (fold_of opening history)
-unfolding total_of
 divides opening history playable events =
+    let most = opening.scenario.siblings in
+    let shared = shared-fold_of most opening history playable.siblings.0 (omega arith) events in
     record {
-      sums = λ pid. refl;
-      divisors = (accounted-fold_of opening.scenario.siblings opening history playable.siblings.0 (omega arith) events).divisors;
+      lasts = shared.lasts;
+      divisors = (accounted-fold_of most opening history playable.siblings.0 (omega arith) events).divisors;
+      no_more = shared.no_more;
     }
 
 no_end : (actor : Actor) → actor ≢ End → is_actor End actor ≡ false

@@ -16,8 +16,8 @@ abbrev pub line : List Word → List ℕ
 line words = spaced words ++ 10 ∷ []
 
 -- how many bytes a line can take that is put together: as many as the longest entry has, with its line feed
-abbrev pub line_room : ℕ
-line_room = 152
+abbrev pub line_bytes : ℕ
+line_bytes = 152
 
 -- ---- scenarios
 

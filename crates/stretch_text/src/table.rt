@@ -2,7 +2,7 @@
 
 ghost use Rattle.std.specs.Prelude.{◌≡◌, ◌+◌, ◌≤◌, OnOk, OnErr, length};
 ghost use Rattle.cs_outside.specs.Device.{Rose};
-ghost use Rattle.scenario_text.specs.Text.{line_room};
+ghost use Rattle.scenario_text.specs.Text.{line_bytes};
 
 use crate::cells::{Cells, State};
 use cs_outside::{Failed, Sink, write_all};
@@ -14,7 +14,7 @@ const HEAD: &str = "from\tto\tsibling\tstate\tcookie\tpending\tforced\tpid\n";
 
 /// Puts a number on the line, or nothing where there is none.
 fn put_number(line: &mut Line, number: Option<u64>)
-    requires { length line.old + 20 ≤ line_room }
+    requires { length line.old + 20 ≤ line_bytes }
     ensures { length line.new ≤ length line.old + 20 }
 {
     if let Some(number) = number {
@@ -24,7 +24,7 @@ fn put_number(line: &mut Line, number: Option<u64>)
 
 /// Puts the word of a state on the line.
 fn put_state(line: &mut Line, state: State)
-    requires { length line.old + 7 ≤ line_room }
+    requires { length line.old + 7 ≤ line_bytes }
     ensures { length line.new ≤ length line.old + 7 }
 {
     match state {
@@ -36,7 +36,7 @@ fn put_state(line: &mut Line, state: State)
 
 /// Puts the answer to a question on the line.
 fn put_answer(line: &mut Line, holds: bool)
-    requires { length line.old + 3 ≤ line_room }
+    requires { length line.old + 3 ≤ line_bytes }
     ensures { length line.new ≤ length line.old + 3 }
 {
     if holds {

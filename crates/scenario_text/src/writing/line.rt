@@ -3,7 +3,7 @@
 
 ghost use Rattle.std.specs.Prelude.{◌≡◌, ◌+◌, ◌<◌, ◌≤◌, [], ◌∷◌, ◌++◌, length, codes, decimal};
 ghost use Rattle.scenario_text.specs.Words.{policy_word, made_words, actor_word, ask_words, child_word, event_words, deed_words, reply_words, pick_words, kind_word, run_word};
-ghost use Rattle.scenario_text.specs.Text.{line_room, spaced, entry_text};
+ghost use Rattle.scenario_text.specs.Text.{line_bytes, spaced, entry_text};
 
 use super::replies::lone_word;
 use cs_types::{Actor, Ask, Cpu, Entry, Event, Kind, Pick, Pid, Policy, Reply};
@@ -11,25 +11,25 @@ use itoa::{Buffer, Integer};
 use std::marker::Model;
 
 /// How many bytes a line can take: as many as the longest entry has, with its line feed.
-const ROOM: usize = 152;
+const LINE_BYTES: usize = 152;
 
 /// What is on a line so far. It lies on the stack, and can take 152 bytes.
 #[derive(Drop)]
 pub struct Line {
-    places: [u8; ROOM],
+    places: [u8; LINE_BYTES],
     /// How many bytes are on it. They stand in the first places.
     count: usize,
 }
 
 impl Model for Line {
     ghost use Rattle.std.specs.Prelude.{ℕ, List, take, ◌≤◌};
-    ghost use Rattle.scenario_text.specs.Text.{line_room};
+    ghost use Rattle.scenario_text.specs.Text.{line_bytes};
 
     ghost Value = { List ℕ };
 
     ghost view = { λ line. take line.count line.places };
 
-    ghost invariant = { λ line. line.count ≤ line_room };
+    ghost invariant = { λ line. line.count ≤ line_bytes };
 }
 
 impl Line {
@@ -38,7 +38,7 @@ impl Line {
         ensures { result ≡ [] }
     {
         Line {
-            places: [0; ROOM],
+            places: [0; LINE_BYTES],
             count: 0,
         }
     }
@@ -72,7 +72,7 @@ impl Line {
 
     /// Who makes a step, and what is done.
     pub fn made(&mut self, actor: Actor, event: &Event)
-        requires { length self.old + 76 ≤ line_room }
+        requires { length self.old + 76 ≤ line_bytes }
         ensures text { self.new ≡ self.old ++ spaced (made_words actor event.now) }
         ensures longest { length self.new ≤ length self.old + 76 }
     {
@@ -82,7 +82,7 @@ impl Line {
     }
 
     fn actor(&mut self, actor: Actor)
-        requires { length self.old + 4 ≤ line_room }
+        requires { length self.old + 4 ≤ line_bytes }
         ensures text { self.new ≡ self.old ++ actor_word actor }
         ensures longest { length self.new ≤ length self.old + 4 }
     {
@@ -101,7 +101,7 @@ impl Line {
 
     /// What the actor does. The end names the sibling that schedules.
     fn deed(&mut self, actor: Actor, event: &Event)
-        requires { length self.old + 71 ≤ line_room }
+        requires { length self.old + 71 ≤ line_bytes }
         ensures text { self.new ≡ self.old ++ spaced (deed_words actor event.now) }
         ensures longest { length self.new ≤ length self.old + 71 }
     {
@@ -112,7 +112,7 @@ impl Line {
     }
 
     fn event(&mut self, event: &Event)
-        requires { length self.old + 71 ≤ line_room }
+        requires { length self.old + 71 ≤ line_bytes }
         ensures text { self.new ≡ self.old ++ spaced (event_words event.now) }
         ensures longest { length self.new ≤ length self.old + 71 }
     {
@@ -135,7 +135,7 @@ impl Line {
     }
 
     fn fork(&mut self, caller: Pid, thread: bool)
-        requires { length self.old + 23 ≤ line_room }
+        requires { length self.old + 23 ≤ line_bytes }
         ensures text { self.new ≡ self.old ++ spaced (event_words (Event.Fork caller thread)) }
         ensures longest { length self.new ≤ length self.old + 23 }
     {
@@ -145,7 +145,7 @@ impl Line {
     }
 
     fn prctl(&mut self, caller: Pid, ask: &Ask)
-        requires { length self.old + 71 ≤ line_room }
+        requires { length self.old + 71 ≤ line_bytes }
         ensures text { self.new ≡ self.old ++ spaced (event_words (Event.Prctl caller ask.now)) }
         ensures longest { length self.new ≤ length self.old + 71 }
     {
@@ -155,7 +155,7 @@ impl Line {
     }
 
     fn set_sched(&mut self, pid: Pid, policy: Policy)
-        requires { length self.old + 43 ≤ line_room }
+        requires { length self.old + 43 ≤ line_bytes }
         ensures text { self.new ≡ self.old ++ spaced (event_words (Event.SetSched pid policy)) }
         ensures longest { length self.new ≤ length self.old + 43 }
     {
@@ -166,7 +166,7 @@ impl Line {
 
     /// A policy.
     pub fn policy(&mut self, policy: Policy)
-        requires { length self.old + 23 ≤ line_room }
+        requires { length self.old + 23 ≤ line_bytes }
         ensures text { self.new ≡ self.old ++ policy_word policy }
         ensures longest { length self.new ≤ length self.old + 23 }
     {
@@ -192,7 +192,7 @@ impl Line {
     }
 
     fn child(&mut self, is_thread: bool)
-        requires { length self.old + 7 ≤ line_room }
+        requires { length self.old + 7 ≤ line_bytes }
         ensures text { self.new ≡ self.old ++ child_word is_thread }
         ensures longest { length self.new ≤ length self.old + 7 }
     {
@@ -204,7 +204,7 @@ impl Line {
     }
 
     fn ask(&mut self, ask: &Ask)
-        requires { length self.old + 54 ≤ line_room }
+        requires { length self.old + 54 ≤ line_bytes }
         ensures text { self.new ≡ self.old ++ spaced (ask_words ask.now) }
         ensures longest { length self.new ≤ length self.old + 54 }
     {
@@ -218,7 +218,7 @@ impl Line {
     }
 
     fn reply(&mut self, reply: &Reply)
-        requires { length self.old + 73 ≤ line_room }
+        requires { length self.old + 73 ≤ line_bytes }
         ensures text { self.new ≡ self.old ++ spaced (reply_words reply.now) }
         ensures longest { length self.new ≤ length self.old + 73 }
     {
@@ -241,7 +241,7 @@ impl Line {
 
     /// The task that was stolen, and the sibling that had it.
     fn stolen(&mut self, pid: Pid, from: Cpu)
-        requires { length self.old + 25 ≤ line_room }
+        requires { length self.old + 25 ≤ line_bytes }
         ensures text { self.new ≡ self.old ++ spaced (reply_words (Reply.Stole pid from)) }
         ensures longest { length self.new ≤ length self.old + 25 }
     {
@@ -252,7 +252,7 @@ impl Line {
 
     /// How a task left its sibling, which task, and the pick that the sibling took.
     fn left(&mut self, how: &str, pid: Pid, pick: &Pick)
-        requires { length self.old + length how.now + 67 ≤ line_room }
+        requires { length self.old + length how.now + 67 ≤ line_bytes }
         ensures text { self.new ≡ self.old ++ (how.now ++ spaced (decimal pid ∷ pick_words pick.now)) }
         ensures longest { length self.new ≤ length self.old + length how.now + 67 }
     {
@@ -263,7 +263,7 @@ impl Line {
 
     #[inline(always)]
     fn pick(&mut self, pick: &Pick)
-        requires { length self.old + 56 ≤ line_room }
+        requires { length self.old + 56 ≤ line_bytes }
         ensures text { self.new ≡ self.old ++ spaced (pick_words pick.now) }
         ensures longest { length self.new ≤ length self.old + 56 }
     {
@@ -277,7 +277,7 @@ impl Line {
     }
 
     fn kind(&mut self, kind: Kind)
-        requires { length self.old + 8 ≤ line_room }
+        requires { length self.old + 8 ≤ line_bytes }
         ensures text { self.new ≡ self.old ++ kind_word kind }
         ensures longest { length self.new ≤ length self.old + 8 }
     {
@@ -291,7 +291,7 @@ impl Line {
     /// The pid of what a sibling runs, `idle` for 0.
     #[inline(always)]
     pub fn run(&mut self, pid: Pid)
-        requires { length self.old + 10 ≤ line_room }
+        requires { length self.old + 10 ≤ line_bytes }
         ensures text { self.new ≡ self.old ++ run_word pid }
         ensures longest { length self.new ≤ length self.old + 10 }
     {
@@ -305,7 +305,7 @@ impl Line {
     /// A word with the space behind it, and the pid that it names.
     #[inline(always)]
     fn pid(&mut self, word: &str, pid: Pid)
-        requires { length self.old + length word.now + 10 ≤ line_room }
+        requires { length self.old + length word.now + 10 ≤ line_bytes }
         ensures text { self.new ≡ self.old ++ (word.now ++ decimal pid) }
         ensures longest { length self.new ≤ length self.old + length word.now + 10 }
     {
@@ -315,7 +315,7 @@ impl Line {
 
     /// A word, and the number that it names.
     pub fn named<N: Integer>(&mut self, name: &str, number: N)
-        requires { length self.old + length name.now + 1 + N.MAX_STR_LEN ≤ line_room }
+        requires { length self.old + length name.now + 1 + N.MAX_STR_LEN ≤ line_bytes }
         ensures text { self.new ≡ self.old ++ spaced (name.now ∷ N.text number ∷ []) }
         ensures longest { length self.new ≤ length self.old + length name.now + 1 + N.MAX_STR_LEN }
     {
@@ -326,7 +326,7 @@ impl Line {
 
     /// A word, and the number of a sibling or a guard.
     fn indexed(&mut self, name: &str, number: u8)
-        requires { length self.old + length name.now + 4 ≤ line_room }
+        requires { length self.old + length name.now + 4 ≤ line_bytes }
         ensures text { self.new ≡ self.old ++ spaced (name.now ∷ decimal number ∷ []) }
         ensures longest { length self.new ≤ length self.old + length name.now + 4 }
     {
@@ -337,7 +337,7 @@ impl Line {
 
     /// A number, in decimal.
     pub fn number<N: Integer>(&mut self, number: N)
-        requires { length self.old + N.MAX_STR_LEN ≤ line_room }
+        requires { length self.old + N.MAX_STR_LEN ≤ line_bytes }
         ensures text { self.new ≡ self.old ++ N.text number }
         ensures longest { length self.new ≤ length self.old + N.MAX_STR_LEN }
     {
@@ -347,7 +347,7 @@ impl Line {
 
     /// A number that is mostly one digit, which needs no buffer of its own.
     fn short(&mut self, number: u8)
-        requires { length self.old + 3 ≤ line_room }
+        requires { length self.old + 3 ≤ line_bytes }
         ensures text { self.new ≡ self.old ++ decimal number }
         ensures longest { length self.new ≤ length self.old + 3 }
     {
@@ -360,7 +360,7 @@ impl Line {
 
     /// A number of 32 bits that mostly has three digits at most, which need no buffer of their own.
     fn medium(&mut self, number: u32)
-        requires { length self.old + 10 ≤ line_room }
+        requires { length self.old + 10 ≤ line_bytes }
         ensures text { self.new ≡ self.old ++ decimal number }
         ensures longest { length self.new ≤ length self.old + 10 }
     {
@@ -382,7 +382,7 @@ impl Line {
     /// A number of 64 bits that mostly has 32 bits.
     #[inline(always)]
     fn long(&mut self, number: u64)
-        requires { length self.old + 20 ≤ line_room }
+        requires { length self.old + 20 ≤ line_bytes }
         ensures text { self.new ≡ self.old ++ decimal number }
         ensures longest { length self.new ≤ length self.old + 20 }
     {
@@ -396,7 +396,7 @@ impl Line {
     /// A digit.
     #[inline(always)]
     fn digit(&mut self, digit: u32)
-        requires { (digit < 10) × (length self.old + 1 ≤ line_room) }
+        requires { (digit < 10) × (length self.old + 1 ≤ line_bytes) }
         ensures { self.new ≡ self.old ++ (48 + digit) ∷ [] }
     {
         self.places[self.count] = b'0' + digit as u8;
@@ -405,7 +405,7 @@ impl Line {
 
     /// A text as it is.
     pub fn text(&mut self, text: &str)
-        requires { length self.old + length text.now ≤ line_room }
+        requires { length self.old + length text.now ≤ line_bytes }
         ensures text { self.new ≡ self.old ++ text.now }
         ensures len { length self.new ≡ length self.old + length text.now }
     {
