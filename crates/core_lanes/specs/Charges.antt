@@ -13,7 +13,6 @@ use Rattle.core_lanes.specs.Changes.{Stays, BecomesCharged, IsBooked}
 pub record IsPaid {Q : Type 0} {g : Ghosts Q} (now : ℕ) (both : Core Q g × Table) : Type 0 where
   pub clock : now < 2 ^ 56
   pub started : unwrap_or both.0.account.started now ≤ now
-  pub few : both.0.account.count ≤ 255
   pub intervals : both.0.account.intervals < 2 ^ 63
   pub totals : (pid : ℕ) → total_in both.1 pid ≤ 255 * unwrap_or both.0.account.started now
 

@@ -4,4 +4,3 @@
 mod room;
 
 pub use room::CoreState;
-pub use tree_queue::TreeQueue;

@@ -16,8 +16,7 @@ pub enum Actor {
 /// The arguments of `prctl(PR_SCHED_CORE, ..)`.
 #[derive(Clone, Copy)]
 pub struct Ask {
-    /// The command: 0 for `PR_SCHED_CORE_GET`, 1 for `PR_SCHED_CORE_CREATE`, 2 for
-    /// `PR_SCHED_CORE_SHARE_TO`, 3 for `PR_SCHED_CORE_SHARE_FROM`. No other is valid.
+    /// The command: `GET`, `CREATE`, `SHARE_TO` or `SHARE_FROM`. No other is valid.
     pub cmd: u32,
     /// The target's pid, 0 for the caller. None below 0 is valid.
     pub pid: i32,
@@ -26,6 +25,18 @@ pub struct Ask {
     pub scope: u32,
     /// The user address at which a GET writes its answer, in bytes. 0 for every other command.
     pub addr: u64,
+}
+
+/// The numbers of the commands (include/uapi/linux/prctl.h).
+impl Ask {
+    /// `PR_SCHED_CORE_GET`.
+    pub const GET: u32 = 0;
+    /// `PR_SCHED_CORE_CREATE`.
+    pub const CREATE: u32 = 1;
+    /// `PR_SCHED_CORE_SHARE_TO`.
+    pub const SHARE_TO: u32 = 2;
+    /// `PR_SCHED_CORE_SHARE_FROM`.
+    pub const SHARE_FROM: u32 = 3;
 }
 
 /// One event of the core: what one step does, in one piece, under the core's lock.

@@ -87,6 +87,7 @@ impl ForceIdle {
             result ≡ option_map share (open_interval room) }
         ensures none { IsNone result ↔ (unwrap_or self.old.started now ≡ now) }
 
+        ensures few { self.old.count ≤ 255 }
         ensures count { self.new.count ≡ self.old.count }
         ensures occupation { self.new.occupation ≡ self.old.occupation }
         ensures started { self.new.started ≡ option_map (λ start. now) self.old.started }

@@ -1,5 +1,5 @@
-//! The arguments of a call by their names. They are read here alone, so that no other place knows their
-//! numbers (include/uapi/linux/prctl.h).
+//! The arguments of a call by their names. They are read here alone, so that what comes after it knows a command and a
+//! scope, and no number.
 
 ghost use Rattle.std.specs.Prelude.{◌≡◌, ◌<◌, IfSome, IfNone, is_none};
 ghost use Rattle.cs_types.specs.Prctl.{is_invalid};
@@ -27,10 +27,10 @@ impl Command {
         ensures none { IfNone result (3 < number) }
     {
         match number {
-            0 => Some(Command::Get),
-            1 => Some(Command::Create),
-            2 => Some(Command::ShareTo),
-            3 => Some(Command::ShareFrom),
+            Ask::GET => Some(Command::Get),
+            Ask::CREATE => Some(Command::Create),
+            Ask::SHARE_TO => Some(Command::ShareTo),
+            Ask::SHARE_FROM => Some(Command::ShareFrom),
             _ => None,
         }
     }

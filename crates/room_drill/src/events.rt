@@ -8,12 +8,6 @@ use crate::generator::Generator;
 use crate::size::{SIBLINGS, TASKS};
 use cs_types::{Actor, Ask, Cpu, Event, Pid, Step};
 
-/// `PR_SCHED_CORE_CREATE`.
-const CREATE: u32 = 1;
-
-/// `PR_SCHED_CORE_SHARE_TO`.
-const SHARE_TO: u32 = 2;
-
 /// The longest advance of the clock, in ns.
 const MOST_ADVANCE: u32 = 5_000_000;
 
@@ -75,8 +69,8 @@ impl Generator {
             8 => Event::Block(self.cpu()),
             9..=11 => Event::Wake(self.pid()),
             12 => Event::Advance(u64::from(1 + self.below(MOST_ADVANCE))),
-            13 => self.prctl(CREATE),
-            14 => self.prctl(SHARE_TO),
+            13 => self.prctl(Ask::CREATE),
+            14 => self.prctl(Ask::SHARE_TO),
             15 => Event::SetSched {
                 pid: self.pid(),
                 policy: self.policy(),

@@ -1,13 +1,15 @@
--- TaskLines: a task line with a word that is not right is refused, whichever word it is.
-use Rattle.std.proofs.Common.{◌≡◌, ◌∙◌, ℕ, zero, suc, ◌+◌, ◌≤◌, ◌<◌, Bool, true, false, ltb, [], ◌∷◌, length, get_or, Ok, Err, refl, sym, ap, subst, arith}
+-- TaskLines: a task line, of which the words behind the policy are read first. With a word that is not right it is refused,
+-- whichever word it is.
+use Rattle.std.proofs.Common.{◌≡◌, ◌∙◌, ℕ, zero, suc, ◌+◌, ◌≤◌, ◌<◌, Bool, true, false, ltb, eqb, cond, inl, inr, ◌-◌, [], ◌∷◌, length, get_or, Ok, Err, refl, sym, ap, subst, arith}
 use Rattle.std.specs.Prelude.{◌&&◌, codes, MatchResult}
-use Rattle.std.proofs.lemmas.Bool.{and_from, eq-eqb, ltb-true, cond-true, cond-false}
+use Rattle.std.proofs.lemmas.Bool.{cases_Bool, and_from, and_right, eq-eqb, eqb-true, ltb-true, cond-true, cond-false}
 use Rattle.std.proofs.Math.Bool.{and-false}
+use Rattle.cs_types.specs.declared.task.Creds.{Creds}
 use Rattle.cs_types.specs.declared.task.TaskSpec.{TaskSpec}
 use Rattle.scenario_text.specs.declared.fault.BadKind.{BadKind}
-use Rattle.scenario_text.specs.declared.fault.BadKind.TheVariants.{Number}
-use Rattle.scenario_text.specs.Grammar.{is_word, Form, number, sibling, pid, id, flag, policy, task_form}
-use Rattle.scenario_text.specs.Reading.{Parts, Read, righted, has, read_in, task_value}
+use Rattle.scenario_text.specs.declared.fault.BadKind.TheVariants.{Shape, Number}
+use Rattle.scenario_text.specs.Grammar.{is_word, Form, number, sibling, pid, id, flag, policy, creds_form, task_form}
+use Rattle.scenario_text.specs.Reading.{Parts, after, Read, righted, has, read_in, creds_value, task_value}
 
 -- a word that is not right in its field
 pub wrong_field : (form : Form) (k j place : ℕ) (words : Parts) → place ≡ k + j → j < length form → (get_or form j (number 0 0)).is_right (words.at place) ≡ false → righted k form words ≡ false
@@ -27,23 +29,18 @@ pub refused : {A : Type 0} (result : Read A) (right : Bool) (said : A → Type 0
 refused (Ok x) right said kind spelled is = absurd cc
 refused (Err found) right said kind spelled is = spelled.0
 
--- the shape of a task line
-pub task_shape : (siblings : ℕ) (words : Parts) → words.count ≡ 15 → is_word (words.at 0) (codes "task") ≡ true → policy.has_shape (words.at 5) ≡ true → has (task_form siblings) words ≡ true
-task_shape siblings words count name shape =
-    and_from _ _ (eq-eqb words.count 15 count) (and_from _ _ name (and_from _ _ shape refl))
-
-pub wrong_task : (siblings : ℕ) (words : Parts) (place : ℕ) → has (task_form siblings) words ≡ true → ltb place 15 ≡ true → (get_or (task_form siblings) place (number 0 0)).is_right (words.at place) ≡ false → Err Number ≡ read_in ((task_form siblings, task_value) ∷ []) words
-wrong_task siblings words place shape inside wrong =
-    sym (cond-true _ _ _ shape ∙ cond-false _ _ _ (wrong_field (task_form siblings) 0 place place words (omega arith) (ltb-true place 15 inside) wrong))
+pub wrong_word : {A : Type 0} (form : Form) (says : Parts → A) (words : Parts) (place : ℕ) → has form words ≡ true → ltb place (length form) ≡ true → (get_or form place (number 0 0)).is_right (words.at place) ≡ false → Err Number ≡ read_in ((form, says) ∷ []) words
+wrong_word form says words place shape inside wrong =
+    sym (cond-true _ _ _ shape ∙ cond-false _ _ _ (wrong_field form 0 place place words (omega arith) (ltb-true place (length form) inside) wrong))
 
 -- one of three words is not right in its field
-pub wrong_of_three : (siblings : ℕ) (words : Parts) (i j k : ℕ) (a b c : Bool) → has (task_form siblings) words ≡ true → ltb i 15 ≡ true → ltb j 15 ≡ true → ltb k 15 ≡ true →
-    (get_or (task_form siblings) i (number 0 0)).is_right (words.at i) ≡ a → (get_or (task_form siblings) j (number 0 0)).is_right (words.at j) ≡ b → (get_or (task_form siblings) k (number 0 0)).is_right (words.at k) ≡ c →
-    a && b && c ≡ false → Err Number ≡ read_in ((task_form siblings, task_value) ∷ []) words
-wrong_of_three siblings words i j k false b c shape at_i at_j at_k first second third wrong = wrong_task siblings words i shape at_i first
-wrong_of_three siblings words i j k true false c shape at_i at_j at_k first second third wrong = wrong_task siblings words j shape at_j second
-wrong_of_three siblings words i j k true true false shape at_i at_j at_k first second third wrong = wrong_task siblings words k shape at_k third
-wrong_of_three siblings words i j k true true true shape at_i at_j at_k first second third wrong = absurd cc
+pub wrong_of_three : {A : Type 0} (form : Form) (says : Parts → A) (words : Parts) (i j k : ℕ) (a b c : Bool) → has form words ≡ true → ltb i (length form) ≡ true → ltb j (length form) ≡ true → ltb k (length form) ≡ true →
+    (get_or form i (number 0 0)).is_right (words.at i) ≡ a → (get_or form j (number 0 0)).is_right (words.at j) ≡ b → (get_or form k (number 0 0)).is_right (words.at k) ≡ c →
+    a && b && c ≡ false → Err Number ≡ read_in ((form, says) ∷ []) words
+wrong_of_three form says words i j k false b c shape at_i at_j at_k first second third wrong = wrong_word form says words i shape at_i first
+wrong_of_three form says words i j k true false c shape at_i at_j at_k first second third wrong = wrong_word form says words j shape at_j second
+wrong_of_three form says words i j k true true false shape at_i at_j at_k first second third wrong = wrong_word form says words k shape at_k third
+wrong_of_three form says words i j k true true true shape at_i at_j at_k first second third wrong = absurd cc
 
 -- a word that was taken is right in its field, and what it says
 pub found : {A : Type 0} (result : Read A) (right : Bool) (said : A → Type 0) (x : A) → MatchResult result (λ x. (right ≡ true) × said x) (λ kind. (right ≡ false) × (kind ≡ Number)) → result ≡ Ok x → (right ≡ true) × said x
@@ -56,16 +53,77 @@ three_and true false c rest e more = absurd cc
 three_and true true false rest e more = absurd cc
 three_and true true true rest e more = more
 
-pub right_task : (siblings : ℕ) (words : Parts) (task : TaskSpec) → has (task_form siblings) words ≡ true → is_word (words.at 0) (codes "task") ≡ true →
-    pid.is_right (words.at 1) && pid.is_right (words.at 2) && pid.is_right (words.at 3) ≡ true → (sibling siblings).is_right (words.at 4) ≡ true → policy.is_right (words.at 5) ≡ true →
-    id.is_right (words.at 6) && id.is_right (words.at 7) && id.is_right (words.at 8) ≡ true → id.is_right (words.at 9) && id.is_right (words.at 10) && id.is_right (words.at 11) ≡ true →
-    flag.is_right (words.at 12) && flag.is_right (words.at 13) && flag.is_right (words.at 14) ≡ true → task ≡ task_value words →
-    Ok task ≡ read_in ((task_form siblings, task_value) ∷ []) words
-right_task siblings words task shape name pids cpu said users groups flags is =
-    let right : righted 0 (task_form siblings) words ≡ true =
-    and_from _ _ name (three_and (pid.is_right (words.at 1)) (pid.is_right (words.at 2)) (pid.is_right (words.at 3)) _ pids
-    (and_from _ _ cpu (and_from _ _ said
-    (three_and (id.is_right (words.at 6)) (id.is_right (words.at 7)) (id.is_right (words.at 8)) _ users
-    (three_and (id.is_right (words.at 9)) (id.is_right (words.at 10)) (id.is_right (words.at 11)) _ groups
-    (three_and (flag.is_right (words.at 12)) (flag.is_right (words.at 13)) (flag.is_right (words.at 14)) _ flags refl)))))) in
+-- ---- the words behind the policy
+
+pub creds_shape : (words : Parts) → words.count ≡ 9 → has creds_form words ≡ true
+creds_shape words count = and_from _ _ (eq-eqb words.count 9 count) refl
+
+abbrev pub creds_read : Parts → Read Creds
+creds_read words = read_in ((creds_form, creds_value) ∷ []) words
+
+pub right_creds : (words : Parts) (creds : Creds) → has creds_form words ≡ true →
+    id.is_right (words.at 0) && id.is_right (words.at 1) && id.is_right (words.at 2) ≡ true → id.is_right (words.at 3) && id.is_right (words.at 4) && id.is_right (words.at 5) ≡ true →
+    flag.is_right (words.at 6) && flag.is_right (words.at 7) && flag.is_right (words.at 8) ≡ true → creds ≡ creds_value words → Ok creds ≡ creds_read words
+right_creds words creds shape users groups flags is =
+    let right : righted 0 creds_form words ≡ true =
+    three_and (id.is_right (words.at 0)) (id.is_right (words.at 1)) (id.is_right (words.at 2)) _ users
+    (three_and (id.is_right (words.at 3)) (id.is_right (words.at 4)) (id.is_right (words.at 5)) _ groups
+    (three_and (flag.is_right (words.at 6)) (flag.is_right (words.at 7)) (flag.is_right (words.at 8)) _ flags refl)) in
     ap Ok is ∙ sym (cond-true _ _ _ shape ∙ cond-true _ _ _ right)
+
+abbrev taken : Creds → Read Creds
+taken creds = Ok creds
+
+-- words of which these credentials are read
+pub record AreCreds (words : Parts) (creds : Creds) : Type 0 where
+  pub shape : has creds_form words ≡ true
+  pub right : righted 0 creds_form words ≡ true
+  pub said : creds ≡ creds_value words
+
+are_creds : (words : Parts) (creds : Creds) (has_it right : Bool) → has creds_form words ≡ has_it → righted 0 creds_form words ≡ right → Ok creds ≡ cond has_it (cond right (taken (creds_value words)) (Err Number)) (Err Shape) → AreCreds words creds
+are_creds words creds true true h k e = record { shape = h; right = k; said = cc }
+are_creds words creds true false h k e = absurd cc
+are_creds words creds false right h k e = absurd cc
+
+pub creds_are : (words : Parts) (creds : Creds) → Ok creds ≡ creds_read words → AreCreds words creds
+creds_are words creds e = are_creds words creds (has creds_form words) (righted 0 creds_form words) refl refl e
+
+-- ---- the whole line
+
+same_count : (n : ℕ) → 6 ≤ n → eqb n 15 ≡ eqb (n - 6) 9
+same_count n some = elim (cases_Bool (eqb n 15)) [
+  | inl is ↦ is ∙ sym (eq-eqb (n - 6) 9 (omega (arith, eqb-true n 15 is)))
+  | inr differs ↦
+      elim (cases_Bool (eqb (n - 6) 9)) [
+        | inl same ↦ let wrong : true ≡ false = sym (eq-eqb n 15 (omega (arith, eqb-true (n - 6) 9 same))) ∙ differs in absurd cc
+        | inr none ↦ differs ∙ sym none
+      ]
+]
+
+module _ (siblings : ℕ) (words : Parts) (some : 6 ≤ words.count) (name : is_word (words.at 0) (codes "task") ≡ true) (policed : policy.has_shape (words.at 5) ≡ true) where
+  -- the line has its shape where the words behind the policy have theirs
+  pub task_shape : has (task_form siblings) words ≡ has creds_form (after 6 words)
+  task_shape = ap (λ (b : Bool). eqb words.count 15 && b) (and_from _ _ name (and_from _ _ policed refl)) ∙ ap (λ (b : Bool). b && true) (same_count words.count some)
+
+  abbrev again : Read Creds → Read TaskSpec
+  again (Ok creds) = Err Shape
+  again (Err kind) = Err kind
+
+  are_refused : (kind : BadKind) (has_it right : Bool) → has creds_form (after 6 words) ≡ has_it → righted 0 creds_form (after 6 words) ≡ right → Err kind ≡ cond has_it (cond right (taken (creds_value (after 6 words))) (Err Number)) (Err Shape) → Err kind ≡ read_in ((task_form siblings, task_value) ∷ []) words
+  are_refused kind true true h k e = absurd cc
+  are_refused kind true false h k e =
+      let wrong : righted 0 (task_form siblings) words ≡ false = and_right (is_word (words.at 0) (codes "task")) _ (and_right (pid.is_right (words.at 1)) _ (and_right (pid.is_right (words.at 2)) _ (and_right (pid.is_right (words.at 3)) _ (and_right ((sibling siblings).is_right (words.at 4)) _ (and_right (policy.is_right (words.at 5)) _ k))))) in
+      ap again e ∙ sym (cond-true _ _ _ (task_shape ∙ h) ∙ cond-false _ _ _ wrong)
+  are_refused kind false right h k e = ap again e ∙ sym (cond-false _ _ _ (task_shape ∙ h))
+
+  -- credentials that are refused
+  pub creds_refused : (kind : BadKind) → Err kind ≡ creds_read (after 6 words) → Err kind ≡ read_in ((task_form siblings, task_value) ∷ []) words
+  creds_refused kind e = are_refused kind (has creds_form (after 6 words)) (righted 0 creds_form (after 6 words)) refl refl e
+
+  pub right_task : (task : TaskSpec) → AreCreds (after 6 words) task.creds →
+      pid.is_right (words.at 1) && pid.is_right (words.at 2) && pid.is_right (words.at 3) ≡ true → (sibling siblings).is_right (words.at 4) ≡ true → policy.is_right (words.at 5) ≡ true →
+      task ≡ task_value words → Ok task ≡ read_in ((task_form siblings, task_value) ∷ []) words
+  right_task task creds pids cpu said is =
+      let right : righted 0 (task_form siblings) words ≡ true =
+      and_from _ _ name (three_and (pid.is_right (words.at 1)) (pid.is_right (words.at 2)) (pid.is_right (words.at 3)) _ pids (and_from _ _ cpu (and_from _ _ said creds.right))) in
+      ap Ok is ∙ sym (cond-true _ _ _ (task_shape ∙ creds.shape) ∙ cond-true _ _ _ right)

@@ -154,11 +154,13 @@ siblings_form = keyword (codes "siblings") ∷ number 1 8 ∷ []
 abbrev pub limits_form : Form
 limits_form = keyword (codes "limits") ∷ number 1 256 ∷ number 1 256 ∷ number 8192 9223372036854775807 ∷ []
 
--- `task` PID TGID PGID CPU POLICY RUID EUID SUID RGID EGID SGID CAP MM DUMP
+-- RUID EUID SUID RGID EGID SGID CAP MM DUMP
+abbrev pub creds_form : Form
+creds_form = id ∷ id ∷ id ∷ id ∷ id ∷ id ∷ flag ∷ flag ∷ flag ∷ []
+
+-- `task` PID TGID PGID CPU POLICY and the credentials
 abbrev pub task_form : ℕ → Form
-task_form siblings =
-    keyword (codes "task") ∷ pid ∷ pid ∷ pid ∷ sibling siblings ∷ policy
-    ∷ id ∷ id ∷ id ∷ id ∷ id ∷ id ∷ flag ∷ flag ∷ flag ∷ []
+task_form siblings = keyword (codes "task") ∷ pid ∷ pid ∷ pid ∷ sibling siblings ∷ policy ∷ creds_form
 
 -- `teach` GUARD FROM TO
 abbrev pub teach_form : Form

@@ -5,6 +5,7 @@ use Rattle.std.specs.Borrow.{Bor}
 use Rattle.std.specs.Fmt.{signed_decimal}
 use Rattle.cs_types.specs.declared.task.Policy.{Policy}
 use Rattle.cs_types.specs.declared.task.Policy.TheVariants.{Stop, Deadline, Fifo, Rr, Fair}
+use Rattle.cs_types.specs.declared.task.Creds.{Creds}
 use Rattle.cs_types.specs.declared.task.TaskSpec.{TaskSpec}
 use Rattle.cs_types.specs.declared.event.Actor.{Actor}
 use Rattle.cs_types.specs.declared.event.Actor.TheVariants.{Sibling, Caller, End}
@@ -91,6 +92,21 @@ policy_value word =
     then Fifo (value (behind (codes "fifo:") word))
     else (if begins word (codes "rr:") then Rr (value (behind (codes "rr:") word)) else Fair (signed_value (behind (codes "fair:") word)))))
 
+-- what the words behind a policy say
+abbrev pub creds_value : Parts → Creds
+creds_value words =
+    record {
+      ruid = value (words.at 0);
+      euid = value (words.at 1);
+      suid = value (words.at 2);
+      rgid = value (words.at 3);
+      egid = value (words.at 4);
+      sgid = value (words.at 5);
+      cap = flag_value (words.at 6);
+      mm = flag_value (words.at 7);
+      dumpable = flag_value (words.at 8);
+    }
+
 -- what the fields of a task line say
 abbrev pub task_value : Parts → TaskSpec
 task_value words =
@@ -100,17 +116,7 @@ task_value words =
       pgid = value (words.at 3);
       cpu = value (words.at 4);
       policy = policy_value (words.at 5);
-      creds = record {
-        ruid = value (words.at 6);
-        euid = value (words.at 7);
-        suid = value (words.at 8);
-        rgid = value (words.at 9);
-        egid = value (words.at 10);
-        sgid = value (words.at 11);
-        cap = flag_value (words.at 12);
-        mm = flag_value (words.at 13);
-        dumpable = flag_value (words.at 14);
-      };
+      creds = creds_value (after 6 words);
     }
 
 -- what the fields of a teach line say, which is the line of this number

@@ -3,8 +3,8 @@
 
 ghost use Rattle.std.specs.Prelude.{◌≡◌, ◌&&◌, [], ◌∷◌, true, false, codes, MatchResult};
 ghost use Rattle.scenario_text.specs.declared.fault.BadKind.TheVariants.{Number};
-ghost use Rattle.scenario_text.specs.Grammar.{is_word, is_number, is_signed, value, pid, id, flag, policy, task_form};
-ghost use Rattle.scenario_text.specs.Reading.{lent, read_in, signed_value, flag_value, policy_value, task_value};
+ghost use Rattle.scenario_text.specs.Grammar.{is_word, is_number, is_signed, value, pid, id, flag, policy, creds_form, task_form};
+ghost use Rattle.scenario_text.specs.Reading.{lent, read_in, signed_value, flag_value, policy_value, creds_value, task_value};
 
 use crate::fault::BadKind;
 use crate::number::{parse_cpu, parse_flag, parse_number, parse_signed};
@@ -140,18 +140,21 @@ fn parse_flags(cap: &[u8], mm: &[u8], dumpable: &[u8]) -> Result<(bool, bool, bo
     Ok((cap, mm, dumpable))
 }
 
-/// The words of a task line, in a core with this number of siblings. The first of them is `task`.
-pub(crate) fn parse_task(words: &[&[u8]], siblings: u8) -> Result<TaskSpec, BadKind>
-    requires { is_word ((lent words.now).at 0) (codes "task") ≡ true }
-    ensures { result ≡ read_in ((task_form siblings, task_value) ∷ []) (lent words.now) }
+/// The words behind a policy: the task's credentials.
+fn parse_creds(words: &[&[u8]]) -> Result<Creds, BadKind>
+    ensures { result ≡ read_in ((creds_form, creds_value) ∷ []) (lent words.now) }
 {
-    let [
-        _,
-        pid,
-        tgid,
-        pgid,
-        cpu,
-        policy,
+    let [ruid, euid, suid, rgid, egid, sgid, cap, mm, dumpable] = *words else {
+        return Err(BadKind::Shape);
+    };
+    let (Ok((ruid, euid, suid)), Ok((rgid, egid, sgid)), Ok((cap, mm, dumpable))) = (
+        parse_ids(ruid, euid, suid),
+        parse_ids(rgid, egid, sgid),
+        parse_flags(cap, mm, dumpable),
+    ) else {
+        return Err(BadKind::Number);
+    };
+    Ok(Creds {
         ruid,
         euid,
         suid,
@@ -161,24 +164,26 @@ pub(crate) fn parse_task(words: &[&[u8]], siblings: u8) -> Result<TaskSpec, BadK
         cap,
         mm,
         dumpable,
-    ] = *words
-    else {
+    })
+}
+
+/// The words of a task line, in a core with this number of siblings. The first of them is `task`.
+pub(crate) fn parse_task(words: &[&[u8]], siblings: u8) -> Result<TaskSpec, BadKind>
+    requires { is_word ((lent words.now).at 0) (codes "task") ≡ true }
+    ensures { result ≡ read_in ((task_form siblings, task_value) ∷ []) (lent words.now) }
+{
+    let [_, pid, tgid, pgid, cpu, policy, ref creds @ ..] = *words else {
         return Err(BadKind::Shape);
     };
     if !has_policy_shape(policy) {
         return Err(BadKind::Shape);
     }
+    // Before the numbers in front of them, since the line has its shape only where there are nine of these.
+    let creds = parse_creds(creds)?;
     let (Ok((pid, tgid, pgid)), Ok(cpu), Ok(policy)) = (
         parse_pids(pid, tgid, pgid),
         parse_cpu(cpu, siblings),
         parse_policy(policy),
-    ) else {
-        return Err(BadKind::Number);
-    };
-    let (Ok((ruid, euid, suid)), Ok((rgid, egid, sgid)), Ok((cap, mm, dumpable))) = (
-        parse_ids(ruid, euid, suid),
-        parse_ids(rgid, egid, sgid),
-        parse_flags(cap, mm, dumpable),
     ) else {
         return Err(BadKind::Number);
     };
@@ -188,16 +193,6 @@ pub(crate) fn parse_task(words: &[&[u8]], siblings: u8) -> Result<TaskSpec, BadK
         pgid,
         cpu,
         policy,
-        creds: Creds {
-            ruid,
-            euid,
-            suid,
-            rgid,
-            egid,
-            sgid,
-            cap,
-            mm,
-            dumpable,
-        },
+        creds,
     })
 }

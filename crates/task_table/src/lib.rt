@@ -11,7 +11,6 @@ mod spans;
 mod table;
 mod tasks;
 
-pub use cs_types::Task;
 pub use fault::AddFault;
 pub use group::Group;
 pub use table::TaskTable;

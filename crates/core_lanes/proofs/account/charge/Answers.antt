@@ -19,7 +19,7 @@ pub charge_tasks-requires-clause-low : goal.charge_tasks-requires-clause-low
 charge_tasks-requires-clause-low g c pid =
     let room = room_of (at c.args.now some_beside) (c.args.core.now, c.args.table.now) in
     let is : Some c.in-Some.share ≡ option_map share (open_interval room) = c.in-Some.ensures.share room (record { count = refl; occupation = refl; started = refl }) refl in
-    let low = open_share-le 255 c.in-Some.share room (omega arith) c.requires.paid.few is in
+    let low = open_share-le 255 c.in-Some.share room (omega arith) c.in-Some.ensures.few is in
     omega (arith, low, c.requires.paid.totals pid, c.requires.paid.started, c.requires.paid.clock)
 
 pub charge_tasks-requires-clause-sound : goal.charge_tasks-requires-clause-sound

@@ -52,7 +52,6 @@ counted-reply-requires-clause-may g c =
         paid = record {
           clock = omega (arith, c.self.invariant.slow, a.entries.ok.0, c.self.invariant.few_entries, most_entries-le a.scenario.value c.self.invariant.playable);
           started = subst (λ (r : RoomState). charged_up_to (account_of r) ≤ r.clock) (sym fold) accounted.started;
-          few = subst (λ (r : RoomState). r.forced ≤ 255) (sym fold) accounted.few;
           intervals = omega (
             arith,
             accounted.intervals,
