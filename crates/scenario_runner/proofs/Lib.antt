@@ -3,6 +3,7 @@ pub mod Playable
 pub mod Asked
 pub mod Drills
 mod Runs
+mod Totals
 mod Outputs
 mod Openings
 pub mod Writes

@@ -26,6 +26,7 @@ use Rattle.sibling_workers.proofs.Own.{is_actor-same, same_actor}
 use Rattle.scenario_text.specs.Entry.{IsMade}
 use Rattle.scenario_runner.specs.Outcomes.{DividesIntervals, IsPlayed, IsReplayHistory, before_end, IsRaceHistory}
 use Rattle.scenario_runner.proofs.Endings.{AreMade}
+use Rattle.scenario_runner.proofs.Totals.{totals-le}
 
 -- ---- the events of a run keep their limits
 
@@ -194,6 +195,7 @@ divides opening history playable events =
       lasts = shared.lasts;
       divisors = (accounted-fold_of most opening history playable.siblings.0 (omega arith) events).divisors;
       no_more = shared.no_more;
+      together = λ pids distinct. totals-le (fold_of opening history).intervals pids distinct shared.no_more;
     }
 
 no_end : (actor : Actor) → actor ≢ End → is_actor End actor ≡ false

@@ -1,6 +1,6 @@
 -- Outcomes: what the history of a run is, by its command, and what is read and written where that is done, and where the
 -- sink failed.
-use Rattle.std.specs.Prelude.{◌≡◌, ◌≢◌, ℕ, ◌<◌, ◌≤◌, List, [], ◌∷◌, ◌++◌, length, filter, not, All, Option, IfSome}
+use Rattle.std.specs.Prelude.{◌≡◌, ◌≢◌, ℕ, ◌<◌, ◌≤◌, List, [], ◌∷◌, ◌++◌, length, filter, sum_by, not, All, AllPairs, Option, IfSome}
 use Rattle.cs_types.specs.declared.event.Actor.{Actor}
 use Rattle.cs_types.specs.declared.event.Actor.TheVariants.{End}
 use Rattle.cs_types.specs.declared.reply.Entry.{Entry}
@@ -8,6 +8,7 @@ use Rattle.cs_types.specs.declared.scenario.Scenario.{Scenario}
 use Rattle.cs_types.specs.Room.{Opening, RoomState}
 use Rattle.cs_types.specs.Scenario.{script, is_actor}
 use Rattle.cs_types.specs.Accounting.{charged_time, forced_time}
+use Rattle.cs_types.specs.View.{forced_of}
 use Rattle.cs_types.specs.Touches.{selection_of}
 use Rattle.cs_types.specs.History.{History, IsLegal, fold_of, events_by, file}
 use Rattle.cs_types.specs.Shuffles.{IsShuffle}
@@ -26,11 +27,13 @@ opened_with caps scenario = record { scenario = scenario; guards = length caps }
 
 -- The forced-idle totals of a room divide its recorded intervals. What a task was charged is by definition the sum of the
 -- shares of the intervals that charge it (`forced_of`). What is promised is that this divides them: each lasted for some time,
--- no share is divided by 0, and no interval charges more than its forced-idle time.
+-- no share is divided by 0, and no interval charges more than its forced-idle time. So what distinct tasks were charged is
+-- together no more than the forced-idle time of all intervals.
 pub record DividesIntervals (room : RoomState) : Type 0 where
   pub lasts : All (λ interval. interval.from < interval.to) room.intervals
   pub divisors : All (λ interval. 0 < interval.occupation) room.intervals
   pub no_more : All (λ interval. charged_time interval ≤ forced_time interval) room.intervals
+  pub together : (pids : List ℕ) → AllPairs (λ one other. one ≢ other) pids → sum_by (forced_of room) pids ≤ sum_by forced_time room.intervals
 
 -- What is so of the history of each run.
 pub record IsPlayed (opening : Opening) (run : History) : Type 0 where
