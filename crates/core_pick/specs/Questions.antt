@@ -1,5 +1,5 @@
 -- Questions: what a selection asks of the siblings, and what it keeps of their answers.
-use Rattle.std.specs.Prelude.{◌≡◌, ℕ, ◌+◌, ◌-◌, ◌<◌, ◌≤◌, ◌++◌, List, map, length}
+use Rattle.std.specs.Prelude.{◌≡◌, ℕ, ◌+◌, ◌-◌, ◌<◌, ◌≤◌, ◌++◌, List, [], ◌∷◌, map, length}
 use Rattle.std.specs.List.{range_with_len}
 use Rattle.cs_types.specs.Selection.{first_on, cookie_of, lead_from, choice}
 use Rattle.task_table.specs.Table.{Table}
@@ -10,7 +10,7 @@ use Rattle.core_lanes.specs.Lanes.{Beside, room_of, AgreesAt, HasLowTimes}
 use Rattle.core_pick.specs.declared.choice.Choice.{Choice}
 use Rattle.core_pick.specs.declared.choice.Counts.{Counts}
 use Rattle.core_pick.specs.declared.lead.First.{First}
-use Rattle.core_pick.specs.Choice.{choice_of, kept_in, firsts_of, offered, lead_in, choices_of, IsGivenAndCounted, AreCountsOf}
+use Rattle.core_pick.specs.Choice.{choice_of, kept_in, firsts_of, lead_in, choices_of, IsGivenAndCounted, AreCountsOf}
 
 -- ---- of one sibling
 
@@ -28,9 +28,10 @@ pub record AsksOnce {Q : Type 0} {g : Ghosts Q} (cpu : ℕ) (both : Core Q g × 
 abbrev pub KeepsFirst : {Q : Type 0} {g : Ghosts Q} → ℕ → Core Q g × Table → First → Type 0
 KeepsFirst cpu both first = (beside : Beside) → let room = room_of beside both in first ≡ kept_in room (first_on room cpu)
 
--- and this of what it puts up to lead
-abbrev pub KeepsOffered : {Q : Type 0} {g : Ghosts Q} → ℕ → Core Q g × Table → First → Type 0
-KeepsOffered cpu both first = (beside : Beside) → let room = room_of beside both in first ≡ kept_in room (offered room cpu)
+-- where the one first leads some siblings, the other leads these and this sibling
+abbrev pub LeadsWith : {Q : Type 0} {g : Ghosts Q} → ℕ → Core Q g × Table → First → First → Type 0
+LeadsWith cpu both before now = (beside : Beside) (order : List ℕ) → let room = room_of beside both in
+    before ≡ lead_in room order → now ≡ lead_in room (order ++ cpu ∷ [])
 
 -- where the one is its first task, the other is what it gets for a core cookie
 abbrev pub Gets : {Q : Type 0} {g : Ghosts Q} → ℕ → ℕ → Core Q g × Table → Choice → Choice → Type 0

@@ -8,7 +8,7 @@ ghost use Rattle.task_table.specs.Table.{Table};
 ghost use Rattle.core_lanes.specs.Lanes.{Beside, room_of, Agree, AgreesAt};
 ghost use Rattle.core_pick.specs.Choice.{firsts_of, MayCount};
 ghost use Rattle.core_pick.specs.Comparisons.{Compares};
-ghost use Rattle.core_pick.specs.Questions.{MayAsk, AsksOnce, KeepsFirst, KeepsOffered, Gets, GetsCounted, MayAskPart, AsksPart, AsksAll, GetAll};
+ghost use Rattle.core_pick.specs.Questions.{MayAsk, AsksOnce, KeepsFirst, LeadsWith, Gets, GetsCounted, MayAskPart, AsksPart, AsksAll, GetAll};
 
 use crate::choice::{Choice, Choices, Counts};
 use crate::lead::{First, first_kept};
@@ -121,16 +121,17 @@ pub fn first_at<Q: SiblingQueue, L: Ledger>(
     first_kept(first.as_ref(), core.lanes[cpu as usize].snapshot)
 }
 
-/// What a sibling with this first task puts up to lead: that, or idle where it is offline.
+/// The lead of some siblings and of one more, where this is what is kept of its first. One that is offline puts up
+/// nothing.
 #[inline(always)]
-fn offered<Q: SiblingQueue>(core: &Core<Q>, cpu: Cpu, first: First) -> First
+fn lead_with<Q: SiblingQueue>(core: &Core<Q>, cpu: Cpu, lead: First, first: First) -> First
     requires { cpu < length core.now.lanes.items }
-    ensures { (table : Table) → KeepsFirst cpu (core.now, table) first → KeepsOffered cpu (core.now, table) result }
+    ensures { (table : Table) → MayAsk cpu (core.now, table) → KeepsFirst cpu (core.now, table) first → LeadsWith cpu (core.now, table) lead result }
 {
     if core.is_online(cpu) {
-        first
+        lead.or_higher(first)
     } else {
-        First::idle()
+        lead
     }
 }
 
@@ -156,7 +157,7 @@ fn ask_from<Q: SiblingQueue, L: Ledger>(
     for cpu in from..to {
         let first = first_at(core, table, cpu, steps);
         firsts.push(first.choice);
-        lead = lead.or_higher(offered(core, cpu, first));
+        lead = lead_with(core, cpu, lead, first);
     }
     lead
 }
@@ -177,9 +178,10 @@ pub fn ask<Q: SiblingQueue, L: Ledger>(
     ensures asks { AsksAll own (core.now, table.now) firsts.new.items result }
     ensures counted { Compares (core.now, table.now) (λ most. steps.new + most ≤ steps.old + length core.now.lanes.items * most) }
 {
-    let before = ask_from(firsts, core, table, 0, own, First::idle(), steps);
+    let nobody = First::idle();
+    let before = ask_from(firsts, core, table, 0, own, nobody, steps);
     firsts.push(first.choice);
-    let offer = offered(core, own, *first);
+    let offer = lead_with(core, own, nobody, *first);
     let lead = ask_from(
         firsts,
         core,

@@ -7,9 +7,9 @@ use Rattle.core_lanes.proofs.Stays.{policies_of}
 use Rattle.sibling_priority.specs.Offers.{IsFirst}
 use Rattle.core_pick.specs.declared.choice.Choice.{Choice}
 use Rattle.core_pick.specs.declared.lead.First.{First}
-use Rattle.core_pick.specs.Choice.{choice_of, kept_in, is_above, lead_of}
+use Rattle.core_pick.specs.Choice.{choice_of, is_above, lead_of}
 use Rattle.core_pick.proofs.Asked.{all_but_own}
-use Rattle.core_pick.proofs.Leads.{map-append, higher-kept_in, is_first, lead_of-append, lead_of-one, lead_of-all, of_lead}
+use Rattle.core_pick.proofs.Leads.{map-append, higher-kept_in, is_first, lead_of-append, lead_of-all, of_lead}
 use Rattle.core_pick.proofs.Ranges.{low_snapshots}
 use Rattle.core_pick.proofs.selection.ask.Goals as goal
 
@@ -94,9 +94,8 @@ returns-clause-asks g c = record {
       let from : suc (c.len.result - (own + 1)) ≡ length room.siblings - own = omega (arith, count, may.at.cpu, length-map c.args.core.now.lanes.items lane_state) in
       let each = is_first room (policies_of (c.args.core.now, c.args.table.now) may.at.agree) in
       let low = low_snapshots (map lane_state c.args.core.now.lanes.items) may.low.snapshots in
-      let lead = c.ask_from-lead.ensures.asks.lead beside (own ∷ [])
-      (c.offered-offer.ensures c.args.table.now c.requires.first beside ∙ ap (kept_in room) (sym (lead_of-one room own))) in
-      let before = c.ask_from-before.ensures.asks.lead beside [] c.idle.ensures in
+      let lead = c.ask_from-lead.ensures.asks.lead beside (own ∷ []) (c.lead_with-offer.ensures c.args.table.now may c.requires.first beside [] c.idle-nobody.ensures) in
+      let before = c.ask_from-before.ensures.asks.lead beside [] c.idle-nobody.ensures in
       ap (λ (first : First). first.choice.cookie)
       (c.or_higher.ensures
       ∙ (λ i. let one : First = lead i in let other : First = before i in cond (is_above other one) other one)

@@ -1,18 +1,14 @@
-use Rattle.std.proofs.Common.{◌≡◌, ◌∙◌, ℕ, suc, ◌+◌, ◌-◌, ◌<◌, ◌≤◌, [], ◌∷◌, ◌++◌, List, ap, sym, cond, map, length, append_assoc, arith}
+use Rattle.std.proofs.Common.{◌≡◌, ◌∙◌, ℕ, suc, ◌+◌, ◌-◌, ◌<◌, ◌≤◌, [], ◌∷◌, ◌++◌, List, ap, sym, map, length, append_assoc, arith}
 use Rattle.std.specs.List.{range_with_len}
 use Rattle.std.proofs.lemmas.List.{append-nil}
-use Rattle.cs_types.specs.Order.{outranks}
-use Rattle.cs_types.specs.Selection.{first_on, snapshot_of}
-use Rattle.core_lanes.specs.Lanes.{lane_state, room_of}
+use Rattle.cs_types.specs.Selection.{first_on}
+use Rattle.core_lanes.specs.Lanes.{room_of}
 use Rattle.core_lanes.proofs.Lists.{range_more}
-use Rattle.core_lanes.proofs.Stays.{policies_of}
-use Rattle.sibling_priority.specs.Offers.{IsFirst}
 use Rattle.core_pick.specs.declared.choice.Choice.{Choice}
 use Rattle.core_pick.specs.declared.lead.First.{First}
-use Rattle.core_pick.specs.Choice.{choice_of, kept_in, is_above, offered, lead_of, lead_in}
+use Rattle.core_pick.specs.Choice.{choice_of, lead_in}
 use Rattle.core_pick.proofs.Asked.{one_more}
-use Rattle.core_pick.proofs.Leads.{map-append, higher-kept_in, is_first, lead_of-append, lead_of-one, of_offered, of_lead}
-use Rattle.core_pick.proofs.Ranges.{low_snapshots}
+use Rattle.core_pick.proofs.Leads.{map-append}
 use Rattle.core_pick.proofs.selection.ask_from.Goals as goal
 
 -- one sibling more
@@ -53,14 +49,7 @@ loop-cpu-preserved g c =
           ∙ ap (λ (more : List Choice). c.args.firsts.now.items ++ more) (sym (map-append offer (range_with_len from (cpu - from)) (cpu ∷ [])) ∙ ap (map offer) (sym (range_next from cpu c.loop-cpu.auto.cpu)));
       leads = λ beside order is.
           let room = room_of beside (c.args.core.now, c.args.table.now) in
-          let before = order ++ range_with_len from (cpu - from) in
-          let first = c.offered.ensures c.args.table.now c.first_at-first.ensures.answer beside in
-          let each = is_first room (policies_of (c.args.core.now, c.args.table.now) may.at.agree) in
-          let low = low_snapshots (map lane_state c.args.core.now.lanes.items) may.low.snapshots in
-          c.or_higher-lead.ensures
-          ∙ (λ i. let lead = c.loop-cpu.invariant.leads beside order is i in let other : First = first i in cond (is_above other lead) other lead)
-          ∙ higher-kept_in room low (lead_of room before) (offered room cpu) (of_lead room IsFirst tt each before) (of_offered room IsFirst tt each cpu)
-          ∙ ap (kept_in room) ((λ i. cond (outranks (snapshot_of room) (sym (lead_of-one room cpu) i) (lead_of room before)) (sym (lead_of-one room cpu) i) (lead_of room before)) ∙ sym (lead_of-append room before (cpu ∷ [])))
+          c.lead_with-lead.ensures c.args.table.now may c.first_at-first.ensures.answer beside (order ++ range_with_len from (cpu - from)) (c.loop-cpu.invariant.leads beside order is)
           ∙ ap (lead_in room) (append_assoc order (range_with_len from (cpu - from)) (cpu ∷ []) ∙ ap (λ (more : List ℕ). order ++ more) (sym (range_next from cpu c.loop-cpu.auto.cpu)));
       asked = λ longest longer.
           let rises = g.met.Q.SiblingQueue.rises _ _ (longer cpu below) in
