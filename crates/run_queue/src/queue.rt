@@ -108,6 +108,7 @@ impl RunQueue {
     }
 
     /// The task leaves the cookie order (`sched_core_dequeue`), where it has a cookie.
+    #[inline(always)]
     fn leave_cookies<L: Ledger>(&mut self, task: &Queued, steps: &mut Steps<L>)
         requires ranked { IsRanked task.now }
         requires same { IfSome (map.get self.old.cookies (spot_of task.now)) (λ pid. pid ≡ task.now.pid) }
@@ -125,6 +126,7 @@ impl RunQueue {
     }
 
     /// The task, which is there, enters the cookie order (`sched_core_enqueue`), where it has a cookie.
+    #[inline(always)]
     fn enter_cookies<L: Ledger>(&mut self, task: Queued, steps: &mut Steps<L>)
         requires ranked { IsRanked task }
         requires there { IsTrue (map.contains_key self.old.tasks (seat_of task)) }
