@@ -37,14 +37,14 @@ total_of pid intervals = sum_by share (filter (charges pid) intervals)
 -- ---- what is charged
 
 -- the pid of a task that has a cookie, none for idle and for a task without
-abbrev pub with_cookie : Option Task → Option ℕ
-with_cookie None = None
-with_cookie (Some task) = if task.cookie == 0 then None else Some task.spec.pid
+abbrev pub pid_with_cookie : Option Task → Option ℕ
+pid_with_cookie None = None
+pid_with_cookie (Some task) = if task.cookie == 0 then None else Some task.spec.pid
 
 -- who is charged for a sibling: what it is to run, where that is a task with a cookie (`core_pick`, `rq->curr`; that it needs
 -- a cookie is 5.19's rule, and no longer 6.0's)
 abbrev pub charged_on : RoomState → ℕ → Option ℕ
-charged_on room cpu = with_cookie (option_and_then (task_of room) (to_run (sibling_of room cpu)))
+charged_on room cpu = pid_with_cookie (option_and_then (task_of room) (to_run (sibling_of room cpu)))
 
 -- who is charged: of each online sibling, by rising sibling
 unfoldable pub charged : RoomState → List ℕ
@@ -72,7 +72,7 @@ charge room =
       started = option_map (λ start. room.clock) room.started;
     }
 
--- No interval of forced idle is open, and the numbers of forced idle and chosen siblings are 0. One that was open is not
--- charged here (the beginning of `pick_next_task`, kernel/sched/core.c).
+-- No interval of forced idle is open, and the forced-idle count and the occupation are 0. One that was open is not charged
+-- here (the beginning of `pick_next_task`, kernel/sched/core.c).
 abbrev pub without_interval : RoomState → RoomState
 without_interval room = record room { forced = 0; occupation = 0; started = None }

@@ -43,7 +43,7 @@ on_bench teaches index = record { place = Bench; pairs = taught teaches index; a
 abbrev pub guards_on_bench : List Teach → ℕ → GuardList
 guards_on_bench teaches count = record { all = map (on_bench teaches) (range_with_len 0 count); active = [] }
 
--- ---- load and unload (`security_add_hooks`; that a module can be taken out is this project's rule)
+-- ---- load and unload (`security_add_hooks`; at which moments is this project's rule)
 
 -- whether a guard stands on the bench, and whether it is active
 abbrev pub is_bench : GuardPlace → Bool

@@ -14,7 +14,8 @@ abbrev pub lowest_other : RoomState → ℕ → ℕ
 lowest_other room cpu =
     unwrap_or (find (λ other. is_online room other && not (other == cpu)) (range_with_len 0 (length room.siblings))) 0
 
--- A task of the sibling that leaves moves to that one. It gets the next stamps in the order of those that they had.
+-- A task of the sibling that leaves moves to that one. Those that move get the next stamps, in the order of the stamps that
+-- they had.
 abbrev pub moved_off : RoomState → ℕ → Task → Task
 moved_off room cpu task =
     if task.queued && (task.home == cpu)

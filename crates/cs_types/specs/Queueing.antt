@@ -49,7 +49,7 @@ rehomed room task = if is_online room task.home then task else moved_to room (lo
 abbrev pub preempts : RoomState → Task → Bool
 preempts room task = option_map_or (λ running. is_higher_here task running) (running_on room task.home) true
 
--- A deadline task's absolute deadline is the clock and its relative deadline (after `update_dl_entity`), and a fair task is
+-- A deadline task's absolute deadline is the clock plus its relative deadline (after `update_dl_entity`), and a fair task is
 -- pulled up to its queue's least virtual time (after `place_entity`; both are this project's rules).
 abbrev pub refreshed_by : RoomState → Policy → Task → Task
 refreshed_by room (Deadline relative) task = record task { deadline = room.clock + relative }

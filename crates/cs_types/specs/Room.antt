@@ -55,7 +55,7 @@ pub record RoomState : Type 0 where
   pub tasks : List Task
   -- the pids of the tasks that ended, in the order of their ends (this project's)
   pub ended : List ℕ
-  -- the siblings (the CPUs of `cpu_smt_mask`), by rising number
+  -- the siblings (the CPUs of one core, also while they are offline), by rising number
   pub siblings : List SiblingState
   -- the next pid, the next stamp and the next cookie (this project's)
   pub next_pid : ℕ

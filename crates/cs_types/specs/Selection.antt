@@ -80,7 +80,7 @@ pub record Scheduled : Type 0 where
   pub pick : Pick
   pub room : RoomState
 
--- whether a sibling runs this, which is a task's pid or none for idle
+-- whether what a sibling runs or is to run is this: a task's pid, or none for idle
 abbrev pub is_run : Option ℕ → Option ℕ → Bool
 is_run None None = true
 is_run (Some a) (Some b) = a == b

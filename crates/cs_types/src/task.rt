@@ -16,7 +16,8 @@ pub type Cpu = u8;
 /// A task's scheduling policy.
 #[derive(Clone, Copy)]
 pub enum Policy {
-    /// The stop task (`stop_sched_class`), above every other.
+    /// The class of the stop task (`stop_sched_class`), above every other. The kernel has one such task for each CPU; here
+    /// any task can be one.
     Stop,
     /// `SCHED_DEADLINE` with a relative deadline, 1 to 1000000000 ns.
     Deadline(u64),
@@ -129,7 +130,7 @@ pub struct Task {
     pub vtime: u128,
     /// Its absolute deadline, in ns of the clock, of a deadline task (`dl.deadline`).
     pub deadline: u64,
-    /// The stamp of its last enqueue (this project's).
+    /// The stamp of its last enqueue or rotation (this project's).
     pub stamp: u64,
     /// How much of its slice it has used, in ns, of an RR task (`rt.time_slice` counts the rest, in
     /// ticks).
