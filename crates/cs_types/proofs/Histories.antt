@@ -1,13 +1,15 @@
 -- Histories: how a moment and a legal history go on by one step, and what holds of the history that steps make.
-use Rattle.std.proofs.Common.{◌≡◌, suc, true, false, cond, List, [], ◌∷◌, ◌++◌, map, length, refl, ap, subst}
+use Rattle.std.proofs.Common.{◌≡◌, ℕ, ◌+◌, ◌<◌, suc, true, false, cond, List, [], ◌∷◌, ◌++◌, map, length, take, get_or, refl, sym, ap, ◌∙◌, subst}
+use Rattle.std.proofs.lemmas.List.{take_more}
 use Rattle.std.specs.Prelude.{filter}
 use Rattle.cs_types.specs.declared.event.Actor.{Actor}
 use Rattle.cs_types.specs.declared.event.Event.{Event}
 use Rattle.cs_types.specs.declared.event.Step.{Step}
 use Rattle.cs_types.specs.declared.reply.Entry.{Entry}
+use Rattle.cs_types.specs.declared.reply.Reply.{Reply}
 use Rattle.cs_types.specs.Scenario.{is_actor, script}
 use Rattle.cs_types.specs.Room.{Opening}
-use Rattle.cs_types.specs.History.{History, Moment, beginning, step_at, next, after, moment_of, IsLegal, events_by, entry_of, made_from, history_of, file}
+use Rattle.cs_types.specs.History.{History, Moment, beginning, step_at, next, after, moment_of, reply_to, IsLegal, events_by, entry_of, made_from, history_of, file}
 
 -- one more entry is one more step
 pub after-push : (moment : Moment) (entries : List Entry) (entry : Entry) →
@@ -69,3 +71,23 @@ events_from actor moment (first ∷ steps) =
 -- in the file's history each actor makes its script
 pub events_by-file : (opening : Opening) (actor : Actor) → events_by actor (file opening) ≡ script opening.scenario actor
 events_by-file opening actor = events_from actor (beginning opening) opening.scenario.steps
+
+-- ---- a list of steps that is made one by one
+
+abbrev entry_with : Step → Reply → Entry
+entry_with made reply = record { actor = made.actor; event = made.event; reply = reply }
+
+-- the history of one more step of the list
+pub history_more : (opening same : Opening) (steps : List Step) (i : ℕ) (d : Step) (past now : History) (reply : Reply) →
+    i < length steps → past ≡ history_of opening (take i steps) → same ≡ opening →
+    now ≡ past ++ record { actor = (get_or steps i d).actor; event = (get_or steps i d).event; reply = reply } ∷ [] →
+    reply ≡ reply_to same past (get_or steps i d).event →
+    now ≡ history_of opening (take (i + 1) steps)
+history_more opening same steps i d past now reply lt so_far alike one_more told =
+    let made = get_or steps i d in
+    let told' : reply ≡ reply_to opening past made.event = told ∙ ap (λ (s : Opening). reply_to s past made.event) alike in
+    one_more
+    ∙ ap (λ (r : Reply). past ++ entry_with made r ∷ []) told'
+    ∙ ap (λ (h : History). h ++ entry_of (moment_of opening h) made ∷ []) so_far
+    ∙ sym (history_of-push opening (take i steps) made)
+    ∙ ap (history_of opening) (sym (take_more steps i d lt))

@@ -1,37 +1,18 @@
--- Plays: how a run with its summary goes on, step by step.
+-- How a run with its summary goes on, step by step.
 use Rattle.std.proofs.Common.{◌≡◌, ℕ, ◌+◌, ◌<◌, ◌≤◌, List, [], ◌∷◌, ◌++◌, length, suc, take, drop, get_or, sum_by, refl, sym, ap, ◌∙◌, subst, arith}
-use Rattle.std.proofs.lemmas.List.{take_more, length-take-le}
+use Rattle.std.proofs.lemmas.List.{length-take-le}
 use Rattle.std.proofs.lemmas.List.Elements.{All-push}
 use Rattle.std.proofs.lemmas.List.Sums.{sum_by-cons}
 use Rattle.std.proofs.Math.Seq.{drop-cons}
 use Rattle.cs_types.specs.declared.event.Step.{Step}
 use Rattle.cs_types.specs.declared.event.Event.{Event}
-use Rattle.cs_types.specs.declared.reply.Reply.{Reply}
 use Rattle.cs_types.specs.declared.reply.Entry.{Entry}
 use Rattle.cs_types.specs.Scenario.{IsEvent}
 use Rattle.cs_types.specs.Room.{Opening}
-use Rattle.cs_types.specs.History.{History, AreEvents, moment_of, reply_to, entry_of, history_of}
-use Rattle.cs_types.proofs.Histories.{history_of-push, length-history_of}
+use Rattle.cs_types.specs.History.{History, AreEvents, history_of}
+use Rattle.cs_types.proofs.Histories.{length-history_of}
 use Rattle.exposed_pairs.specs.Pairs.{most_rows}
 use Rattle.run_summary.specs.Summaries.{Summary, ArePartsOf}
-
-abbrev pub entry_with : Step → Reply → Entry
-entry_with made reply = record { actor = made.actor; event = made.event; reply = reply }
-
--- the history of one more step of a list
-pub history_more : (opening same : Opening) (steps : List Step) (i : ℕ) (d : Step) (past now : History) (reply : Reply) →
-    i < length steps → past ≡ history_of opening (take i steps) → same ≡ opening →
-    now ≡ past ++ entry_with (get_or steps i d) reply ∷ [] →
-    reply ≡ reply_to same past (get_or steps i d).event →
-    now ≡ history_of opening (take (i + 1) steps)
-history_more opening same steps i d past now reply lt so_far alike one_more told =
-    let made = get_or steps i d in
-    let told' : reply ≡ reply_to opening past made.event = told ∙ ap (λ (s : Opening). reply_to s past made.event) alike in
-    one_more
-    ∙ ap (λ (r : Reply). past ++ entry_with made r ∷ []) told'
-    ∙ ap (λ (h : History). h ++ entry_of (moment_of opening h) made ∷ []) so_far
-    ∙ sym (history_of-push opening (take i steps) made)
-    ∙ ap (history_of opening) (sym (take_more steps i d lt))
 
 -- what the events of the history name keeps its limits still
 pub events_more : (opening same : Opening) (past now : History) (entry : Entry) → same ≡ opening → now ≡ past ++ entry ∷ [] →

@@ -1,4 +1,3 @@
-pub mod Plays
 pub mod Inputs
 pub mod Stops
 pub mod Completes
