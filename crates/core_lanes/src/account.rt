@@ -9,10 +9,10 @@ ghost use Rattle.core_lanes.specs.Lanes.{Beside, room_of};
 ghost use Rattle.core_lanes.specs.Account.{charged_at, MayOwe, Owes};
 ghost use Rattle.core_lanes.specs.Charges.{MayCharge, ChargesAlone};
 
-use crate::lanes::{Core, MOST_SIBLINGS};
+use crate::lanes::Core;
 use crate::queue::SiblingQueue;
 use arrayvec::ArrayVec;
-use cs_types::{Cpu, Pid};
+use cs_types::{Cpu, MOST_SIBLINGS, Pid};
 use task_table::TaskTable;
 
 /// The tasks for which siblings are charged.

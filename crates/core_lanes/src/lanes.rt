@@ -22,9 +22,6 @@ use std::alloc::Global;
 use std::sync::ledger::Ledger;
 use task_table::TaskTable;
 
-/// The most siblings of a core.
-pub const MOST_SIBLINGS: usize = 16;
-
 /// The living task with the pid.
 #[inline(always)]
 pub fn task_of(table: &TaskTable, pid: Pid) -> Option<Task>
@@ -45,7 +42,7 @@ pub struct Core<Q: SiblingQueue> {
     /// The pick number: how often they were touched up to the last selection for the core and with it, a
     /// count (`core_pick_seq`).
     pub pick_number: u64,
-    /// The stamp of the next enqueue (this project's).
+    /// The stamp of the next enqueue or rotation (this project's).
     pub next_stamp: u64,
     /// How siblings are forced idle since the last selection for the core (`core_forceidle_count`,
     /// `core_forceidle_occupation` and `core_forceidle_start`).

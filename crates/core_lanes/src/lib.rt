@@ -13,7 +13,7 @@ mod told;
 
 pub use account::charge;
 pub use lane::Lane;
-pub use lanes::{Core, MOST_SIBLINGS, task_of};
+pub use lanes::{Core, task_of};
 pub use order::{goes_before, is_fair, is_higher, is_peer_of};
 pub use queue::{MOST_TASKS, SiblingQueue, is_on};
 pub use queued::{queued_of, rank_of};

@@ -10,8 +10,8 @@ ghost use Rattle.core_pick.specs.Choice.{IsPlan, MayCount, counts_with, HandsOut
 
 use crate::sibling::hand;
 use arrayvec::ArrayVec;
-use core_lanes::{Lane, MOST_SIBLINGS};
-use cs_types::{Cookie, Cpu, Pid, Queued};
+use core_lanes::Lane;
+use cs_types::{Cookie, Cpu, MOST_SIBLINGS, Pid, Queued};
 use sibling_priority::IDLE;
 use task_table::TaskTable;
 

@@ -18,7 +18,7 @@ pub use memory::OutOfMemory;
 pub use queue::{ClassQueue, Queued};
 pub use reply::{Entry, Errno, Kind, Pick, Reply};
 pub use room::Room;
-pub use scenario::{Scenario, Teach};
+pub use scenario::{MOST_SIBLINGS, Scenario, Teach};
 pub use steps::Steps;
 pub use task::{Class, Cookie, Cpu, Creds, Pid, Policy, Task, TaskSpec};
 pub use view::{CoreView, CpuView, EndView, GuardPlace, GuardView, TaskView};

@@ -4,6 +4,9 @@ use crate::event::Step;
 use crate::list::List;
 use crate::task::TaskSpec;
 
+/// The most siblings of a core, a count.
+pub const MOST_SIBLINGS: usize = 16;
+
 /// A pair of real user ids that a guard is taught to refuse.
 #[derive(Clone, Copy)]
 pub struct Teach {

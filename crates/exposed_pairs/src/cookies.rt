@@ -8,11 +8,8 @@ ghost use Rattle.exposed_pairs.specs.Pairs.{runs_cookie};
 ghost use Rattle.exposed_pairs.specs.Added.{has};
 
 use arrayvec::ArrayVec;
-use cs_types::{Cookie, Room};
+use cs_types::{Cookie, MOST_SIBLINGS, Room};
 use run_times::cookie_run;
-
-/// How many siblings a core has at most.
-const MOST_SIBLINGS: usize = 16;
 
 /// The cookies of the tasks that online siblings run, each once.
 pub(crate) fn cookies_run<R: Room>(room: &R) -> ArrayVec<Cookie, MOST_SIBLINGS>
