@@ -21,7 +21,7 @@ use Rattle.scenario_input.proofs.Stops.{stop_not_done, stop_not_words, stop_not_
 use Rattle.scenario_runner.specs.Outcomes.{opened_with, IsReplayHistory}
 use Rattle.scenario_runner.specs.Ends.{Used, IsFaultless}
 use Rattle.scenario_runner.proofs.Endings.{HasRead, ends_stopped, ends_short}
-use Rattle.view_runner.specs.Ends.{IsTimed, EndsAsSummary, EndsAsShown}
+use Rattle.view_runner.specs.Ends.{IsTaken, IsTimed, EndsAsSummary, EndsAsShown}
 use Rattle.scenario_runner.specs.Written.{IsWritten}
 use Rattle.times_report.specs.Summary.{summary_text}
 use Rattle.view_runner.specs.Written.{WritesSummary, MayWriteSummary, IsShown}
@@ -45,7 +45,18 @@ pub record IsOpened {S : Type 0} (caps : List ℕ) (source : Used S) (scenario :
   pub taught : first_bad caps scenario.teaches ≡ None
   pub begins : opening ≡ opened_with caps scenario
 
--- what was read of the input, and the summary of its run
+-- what was read of the input
+is_taken : {S T : Type 0} (caps : List ℕ) (source : Used S) (read : Result T Stop) (value : T) (scenario : Scenario) (opening : Opening) →
+    HasRead caps source read → read ≡ Ok value → IsOpened caps source scenario opening → IsTaken caps source scenario
+is_taken caps source read value scenario opening has is opened =
+    record {
+      reads = opened.reads;
+      fits = fits_where (source.bytes source.before) _ read value is has.too_long;
+      taught = opened.taught;
+      faultless = has.faultless (not_both read value stops.ReadFault is);
+    }
+
+-- and the summary of its run
 is_timed : {S K T : Type 0} (caps : List ℕ) (source : Used S) (sink : Used K) (read : Result T Stop) (value : T) (scenario : Scenario) (steps : List Step) (ended : Status) →
     HasRead caps source read → read ≡ Ok value → IsOpened caps source scenario (opened_with caps scenario) → steps ≡ scenario.steps →
     (writes : WritesSummary (opened_with caps scenario) steps sink ended) → IsTimed caps source writes.summary
@@ -54,10 +65,7 @@ is_timed caps source sink read value scenario steps ended has is opened all writ
     let drained = subst (λ (s : List Step). IsDrained of (history_of of s) writes.run) all writes.drained in
     record {
       scenario = scenario;
-      reads = opened.reads;
-      fits = fits_where (source.bytes source.before) _ read value is has.too_long;
-      taught = opened.taught;
-      faultless = has.faultless (not_both read value stops.ReadFault is);
+      taken = is_taken caps source read value scenario of has is opened;
       run = writes.run;
       drained = drained;
       alone = λ other too. drained_alone of (file of) other writes.run too drained;
@@ -112,12 +120,14 @@ ends_refused caps source sink read stop has is same =
 -- ---- how it ends that shows a run
 
 -- the input was played
-pub ends_shown : {S K T : Type 0} (caps : List ℕ) (source : Used S) (sink : Used K) (read : Result T Stop) (value : T) (ended : Status) →
-    HasRead caps source read → read ≡ Ok value → sink.faults sink.before < 2 ^ 64 - 1 → IsShown sink ended → EndsAsShown caps source sink ended
-ends_shown caps source sink read value ended has is few shown =
+pub ends_shown : {S K T : Type 0} (caps : List ℕ) (source : Used S) (sink : Used K) (read : Result T Stop) (value : T) (scenario : Scenario) (opening : Opening) (ended : Status) →
+    HasRead caps source read → read ≡ Ok value → IsOpened caps source scenario opening → sink.faults sink.before < 2 ^ 64 - 1 → IsShown sink ended →
+    EndsAsShown caps source sink ended
+ends_shown caps source sink read value scenario opening ended has is opened few shown =
+    let taken = is_taken caps source read value scenario opening has is opened in
     record {
-      done = shown.faultless;
-      write_fault = λ e. omega (arith, shown.failed e, few);
+      done = λ e. (shown.faultless e, (scenario, taken));
+      write_fault = λ e. (omega (arith, shown.failed e, few), (scenario, taken));
       good_words = λ bad. elim shown.either [
         | inl done ↦ let wrong : status.BadWords ≡ status.Done = sym bad ∙ done in absurd cc
         | inr (inl fault) ↦ let wrong : status.BadWords ≡ status.WriteFault = sym bad ∙ fault in absurd cc

@@ -15,16 +15,19 @@ use Rattle.scenario_input.specs.Teaching.{first_bad}
 use Rattle.scenario_runner.specs.Outcomes.{opened_with}
 use Rattle.scenario_runner.specs.Ends.{Used, Failed, IsFaultless, EndsAsReplay}
 
--- The input was read as a scenario, and this is the summary of a replay of it, with guards that can be taught so many pairs
--- each.
-pub record IsTimed {S : Type 0} (caps : List ℕ) (source : Used S) (summary : Summary) : Type 0 where
-  -- what was read is the text of a scenario, no longer than an input may be, and each of its teach lines can be carried out
-  pub scenario : Scenario
+-- The input was read, without a fault, as the text of this scenario. It is no longer than an input may be, and each of the
+-- scenario's teach lines can be carried out, with guards that can be taught so many pairs each.
+pub record IsTaken {S : Type 0} (caps : List ℕ) (source : Used S) (scenario : Scenario) : Type 0 where
   pub reads : Reads scenario (source.bytes source.before) (source.bytes source.after)
   pub fits : IfSome (source.bytes source.before) (λ _.
       count_read (source.bytes source.before) (source.bytes source.after) ≤ input_limit)
   pub taught : first_bad caps scenario.teaches ≡ None
   pub faultless : IsFaultless source
+
+-- The input was read as a scenario, and this is the summary of a replay of it.
+pub record IsTimed {S : Type 0} (caps : List ℕ) (source : Used S) (summary : Summary) : Type 0 where
+  pub scenario : Scenario
+  pub taken : IsTaken caps source scenario
   -- the history is the file's steps in order, and then the entries of the end. No other is.
   pub run : History
   pub drained : IsDrained (opened_with caps scenario) (file (opened_with caps scenario)) run
@@ -47,9 +50,10 @@ pub record EndsAsSummary {S K : Type 0} (caps : List ℕ) (source : Used S) (sin
 
 -- How a command ends that shows a run over time. What it shows of it is not said here. Out of memory alone is free.
 pub record EndsAsShown {S K : Type 0} (caps : List ℕ) (source : Used S) (sink : Used K) (status : Status) : Type 0 where
-  -- no fault of the sink was counted where it is done, and one was where it ends in a write fault
-  pub done : status ≡ Done → IsFaultless sink
-  pub write_fault : status ≡ WriteFault → Failed sink
+  -- where it is done, the input was read as a scenario, and no fault of the sink was counted
+  pub done : status ≡ Done → IsFaultless sink × ((scenario : Scenario) × IsTaken caps source scenario)
+  -- it ends in a write fault only where the sink failed, and then the input was read as a scenario too
+  pub write_fault : status ≡ WriteFault → Failed sink × ((scenario : Scenario) × IsTaken caps source scenario)
   -- its own word is never bad
   pub good_words : status ≢ BadWords
   -- else nothing is written, and it ends as a replay of the same input ends

@@ -4,7 +4,7 @@ use Rattle.view_runner.proofs.shown.shown.Goals as goal
 
 pub returns-in-Ok : goal.returns-in-Ok
 returns-in-Ok g c =
-    ends_shown _ _ _ c.opened.result _ c.write_shown.result
+    ends_shown _ _ _ c.opened.result (c.in-Ok.scenario, c.in-Ok.room) c.in-Ok.scenario (g.R.Room.opening c.in-Ok.room) c.write_shown.result
     (record {
       faultless = c.opened.ensures.faultless;
       failed = c.opened.ensures.failed;
@@ -16,6 +16,7 @@ returns-in-Ok g c =
       bad_guard = c.opened.ensures.bad_guard;
     })
     c.in-Ok.is
+    (record { reads = c.in-Ok.ensures.reads; taught = c.in-Ok.ensures.taught; begins = c.in-Ok.ensures.opening })
     c.requires.sink
     c.write_shown.ensures
 
