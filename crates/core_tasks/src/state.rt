@@ -16,9 +16,13 @@ use task_table::TaskTable;
 /// The core and its tasks, and what else the events keep.
 #[derive(Drop)]
 pub struct State<Q: SiblingQueue, G: Guard> {
+    /// The siblings with their queues, and what they share.
     pub core: Core<Q>,
+    /// The living tasks, each with what it was charged for forced idle.
     pub tasks: TaskTable,
+    /// The living cookies, each with how many tasks have it (`refcnt` of `struct sched_core_cookie`).
     pub refs: CookieRefs,
+    /// The guards that were handed in, each on the bench, active or dropped.
     pub guards: Guards<G>,
     /// How many tasks may live at once, 1 to 256.
     pub task_limit: u16,

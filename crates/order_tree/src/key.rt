@@ -26,7 +26,7 @@ impl Key {
         stamp: 0,
     };
 
-    /// Whether it stands before the other.
+    /// Whether it stands before the other. It says what `cmp` says, in the fewest tests: a walk asks it at each step.
     #[inline(always)]
     pub fn is_below(&self, other: &Key) -> bool
         ensures { result ≡ is_lt (key_cmp self.now other.now) }

@@ -20,11 +20,12 @@ pub record BadTeach : Type 0 where
   pub line : ℕ
   pub kind : GuardKind
 
--- the first of these lines with which something is wrong, after the others
+-- what is wrong with this line, where something is, and else what was found of the lines behind it
 abbrev pub noted : Option GuardKind → ℕ → Option BadTeach → Option BadTeach
 noted (Some kind) line others = Some (record { line = line; kind = kind })
 noted None line others = others
 
+-- the first of the later lines with which something is wrong, where the guards have what the earlier ones say
 abbrev pub first_bad_after : List ℕ → List Teach → List Teach → Option BadTeach
 first_bad_after caps earlier [] = None
 first_bad_after caps earlier (teach ∷ rest) =

@@ -35,7 +35,7 @@ pub enum Status {
     #[error("write fault")]
     WriteFault,
     /// There was no memory, and nothing was written. A replay, a race, a drill and a summary end so before
-    /// their first step. What is shown over time may end so before any step, or after the last.
+    /// their first step. What is shown over time may end so at any step, or after the last.
     #[error("out of memory")]
     OutOfMemory,
 }

@@ -80,7 +80,7 @@ pub fn drill<R: FromScenario<Guards<G>>, K: Sink, G: Guard>(
 }
 
 /// Runs the command of the words. The words of `replay` and of `drill` are those of these calls, and it does what they
-/// do, without waiting. With the word `race` a scenario is read as for `replay`. Each actor that has a step line makes its
+/// do. With the word `race` a scenario is read as for `replay`. Each actor that has a step line makes its
 /// script in a worker of its own, and the order of the entries is that in which the workers come to the room. A worker
 /// passes the gate before each of its turns, also before the one that finds its script made. Other words are no
 /// command's.

@@ -19,9 +19,9 @@ use std::alloc::Global;
 use std::sync::Wait;
 use std::thread::Threads;
 
-/// The scenario that the input spells, and the room of it before its first step, in a machine of one kind, with the guards that it
-/// teaches. At most 16 guards are handed in, which refuse nobody yet and were never asked. At an `Err` it is told why the
-/// input is not played.
+/// The scenario that the input spells, and the room of it before its first step, in a machine of one kind, with the
+/// guards that it teaches. At most 16 guards are handed in, which refuse nobody yet and were never asked. At an `Err` it
+/// is told why the input is not played.
 pub fn opened<R: FromScenario<Guards<G>>, S: Source, G: Guard>(
     alloc: Global,
     source: &mut S,
