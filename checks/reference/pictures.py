@@ -6,9 +6,15 @@ Each picture is valid XML without scripts and without references to anything els
 mark of its own has it, at its place and with its words. Where a sibling was forced idle, where it had a pending
 reschedule, and where tasks with distinct cookies ran side by side, there is a mark of that. No picture has 2,000,000 bytes.
 
+And no mark is false. One with the words of a stretch stands at its place. One of exposure or of a pending reschedule goes
+from where that begins to where it ends, with no wide gap in between. One of forced idle is a stretch's in which the
+sibling was that, or goes over some narrow ones of which one was. Each of these may begin a unit before its end, so as to be
+seen.
+
 Usage: pictures.py --program PATH --count N --seed S    compares the examples and N random scenarios
 """
 import argparse
+import bisect
 import glob
 import os
 import random
@@ -61,6 +67,7 @@ class Run:
         self.stretches = [self.stretch(dict(zip(COLUMNS, line.split('\t')))) for line in lines]
         self.total = max((it['to'] for it in self.stretches), default=0)
         self.siblings = 1 + max((it['sibling'] for it in self.stretches), default=0)
+        self.lanes = [[it for it in self.stretches if it['sibling'] == cpu] for cpu in range(self.siblings)]
         self.grain = max(UNIT, 400 * self.siblings)
 
     @staticmethod
@@ -73,6 +80,10 @@ class Run:
 
     def place(self, clock):
         return LEFT + clock * LANES // self.total
+
+    def span(self, it):
+        """From where to where a stretch goes."""
+        return self.place(it['from']), self.place(it['to'])
 
     def words(self, it):
         """The title of a stretch's mark."""
@@ -101,6 +112,38 @@ class Run:
                 del running[cookie]
 
 
+class Spans:
+    """Where something is so: from where to where, by rising begin, and none over another. Places are in thousandths of a
+    unit."""
+
+    def __init__(self, spans):
+        spans = list(spans)
+        self.begins, self.ends = [begin for begin, _ in spans], [end for _, end in spans]
+        self.may_begin, self.may_end = set(self.begins), set(self.ends)
+
+    def are_edges(self, begin, end):
+        """Whether a mark goes from the begin of one to the end of one, or was widened to be seen."""
+        return end in self.may_end and (begin in self.may_begin or begin == end - UNIT)
+
+    def touching(self, begin, end):
+        """The numbers of those that touch what lies between these places."""
+        return range(bisect.bisect_left(self.ends, begin), bisect.bisect_right(self.begins, end))
+
+    def are_near(self, begin, end, gap):
+        """Whether there is no more than this between one and the next in a mark."""
+        touching = self.touching(begin, end)
+        return all(self.begins[later] - self.ends[earlier] <= gap for earlier, later in zip(touching, touching[1:]))
+
+    def has_one(self, begin, end):
+        """Whether one lies in a mark, also in part. What has no width lies where it touches."""
+        return any(self.begins[it] == self.ends[it] or self.begins[it] < end and begin < self.ends[it] for it in self.touching(begin, end))
+
+
+def seen(begin, end):
+    """From where to where something goes that must be seen."""
+    return min(begin, end - UNIT), end
+
+
 def words_of(node):
     return ''.join(it.firstChild.data for it in node.childNodes if it.nodeName == 'title')
 
@@ -117,6 +160,11 @@ def span_of(node):
     return thousandths(place), thousandths(place) + thousandths(width)
 
 
+def rects_of(groups, name):
+    """From where to where the rectangles go in the groups of a class."""
+    return [span_of(mark) for it in groups if it.getAttribute('class') == name for mark in it.getElementsByTagName('rect')]
+
+
 class Picture:
     """A picture by its marks."""
 
@@ -128,7 +176,7 @@ class Picture:
         groups = self.root.getElementsByTagName('g')
         self.lanes = [it for it in groups if it.getAttribute('class') == 'l']
         self.pending = [[span_of(mark) for mark in it.getElementsByTagName('rect')] for it in groups if it.getAttribute('class') == 'p']
-        self.exposed = [span_of(mark) for it in groups if it.getAttribute('class') == 'e' for mark in it.getElementsByTagName('rect')]
+        self.exposed, self.behind = rects_of(groups, 'e'), rects_of(groups, 'b')
         self.marks = [{(words_of(mark), span_of(mark)) for mark in it.childNodes if words_of(mark) and mark.nodeName == 'rect'} for it in self.lanes]
         self.forced = [[span_of(mark) for name in ('rect', 'path') for mark in it.getElementsByTagName(name)
                         if mark.getAttribute('fill').startswith('url(#h')] for it in self.lanes]
@@ -144,8 +192,8 @@ def is_shown(marks, begin, end):
     return False
 
 
-def compare(text, run):
-    """Raises Wrong where the picture does not show the run."""
+def need_closed(text):
+    """Raises Wrong where a picture is too long, runs anything or stands on anything else."""
     if len(text) >= MOST_BYTES:
         raise Wrong('%d bytes' % len(text))
     for word in (b'<script', b'href', b'<image', b'@import', b'<!'):
@@ -153,17 +201,12 @@ def compare(text, run):
             raise Wrong('has %r' % word)
     if re.search(rb'url\((?!#)', text) or text.count(b'http') != 1:
         raise Wrong('a reference to something else')
-    picture = Picture(text)
-    if not picture.root.getAttribute('viewBox'):
-        raise Wrong('no viewBox')
-    if not run.total:
-        if b'No time passed' not in text:
-            raise Wrong('does not say that no time passed')
-        return
-    if len(picture.lanes) != run.siblings or len(picture.pending) != run.siblings:
-        raise Wrong('%d lanes' % len(picture.lanes))
+
+
+def need_marks(picture, run):
+    """Raises Wrong where something has no mark."""
     for it in run.stretches:
-        begin, end = run.place(it['from']), run.place(it['to'])
+        begin, end = run.span(it)
         if end - begin > run.grain and (run.words(it), (begin, end)) not in picture.marks[it['sibling']]:
             raise Wrong('no mark of: %s' % run.words(it))
         if it['forced'] and not is_shown(picture.forced[it['sibling']], begin, end):
@@ -173,6 +216,61 @@ def compare(text, run):
     for begin, end in run.windows():
         if not is_shown(picture.exposed, run.place(begin), run.place(end)):
             raise Wrong('not marked as exposed: %s to %s' % (told(begin), told(end)))
+
+
+def need_spans(marks, spans, gap, what):
+    """Raises Wrong where a mark is not of these spans. Those may be drawn as one that have no more than a gap between them."""
+    for begin, end in marks:
+        if not spans.are_edges(begin, end) or not spans.are_near(begin, end, gap):
+            raise Wrong('a false mark of %s, from %d to %d' % (what, begin, end))
+
+
+def need_forced(marks, run, cpu):
+    """Raises Wrong where a mark of forced idle on a lane is neither a stretch's nor that of some that are narrow."""
+    lane = run.lanes[cpu]
+    of_forced = [run.span(it) for it in lane if it['forced']]
+    alone, forced, stretches = {seen(*it) for it in of_forced}, Spans(of_forced), Spans(map(run.span, lane))
+    for begin, end in marks:
+        is_column = end - begin <= 2 * run.grain and stretches.are_edges(begin, end) and forced.has_one(begin, end)
+        if (begin, end) not in alone and not is_column:
+            raise Wrong('a false mark of forced idle on s%d, from %d to %d' % (cpu, begin, end))
+
+
+def need_titles(marks, run, cpu):
+    """Raises Wrong where the words of a mark on a lane are not those of a stretch at its place."""
+    places = {place for _, place in marks}
+    drawn = ((it, seen(*run.span(it)) if it['forced'] else run.span(it)) for it in run.lanes[cpu])
+    for title, (begin, end) in marks - {(run.words(it), place) for it, place in drawn if place in places}:
+        raise Wrong('a false mark from %d to %d: %s' % (begin, end, title))
+
+
+def need_no_false_mark(picture, run):
+    """Raises Wrong where a mark shows what was not so."""
+    windows = Spans((run.place(begin), run.place(end)) for begin, end in run.windows())
+    need_spans(picture.exposed, windows, run.grain, 'exposure')
+    if not set(picture.behind) <= set(picture.exposed):
+        raise Wrong('a false mark of exposure behind the lanes')
+    for cpu, lane in enumerate(run.lanes):
+        pending = Spans(run.span(it) for it in lane if it['pending'])
+        need_spans(picture.pending[cpu], pending, run.grain, 'a pending reschedule on s%d' % cpu)
+        need_forced(picture.forced[cpu], run, cpu)
+        need_titles(picture.marks[cpu], run, cpu)
+
+
+def compare(text, run):
+    """Raises Wrong where the picture does not show the run."""
+    need_closed(text)
+    picture = Picture(text)
+    if not picture.root.getAttribute('viewBox'):
+        raise Wrong('no viewBox')
+    if not run.total:
+        if b'No time passed' not in text:
+            raise Wrong('does not say that no time passed')
+        return
+    if len(picture.lanes) != run.siblings or len(picture.pending) != run.siblings:
+        raise Wrong('%d lanes' % len(picture.lanes))
+    need_marks(picture, run)
+    need_no_false_mark(picture, run)
 
 
 def long_run(rng, siblings, steps, most):
