@@ -68,6 +68,9 @@ static void say(const char *format, ...)
 	va_start(words, format);
 	int length = vsnprintf(text, sizeof text, format, words);
 	va_end(words);
+	/* (what has no room is cut, and the length is that of the whole) */
+	if (length >= (int)sizeof text)
+		length = sizeof text - 1;
 	write_all(text, length);
 }
 
