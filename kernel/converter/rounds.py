@@ -28,11 +28,18 @@ class Line:
 
 @dataclass
 class Round:
-    """A round of the load: its title, its tasks with sibling and priority, and the lines of its trace."""
+    """A round of the load: its title, its tasks with sibling and priority, and the lines of its trace; whether this says
+    how many lines there were, and whether one is lost or cut."""
     title: str
     tasks: dict = field(default_factory=dict)
     lines: list = field(default_factory=list)
-    is_whole: bool = True
+    is_counted: bool = False
+    has_lost: bool = False
+
+    @property
+    def is_whole(self):
+        """Whether it is known that the trace has all lines."""
+        return self.is_counted and not self.has_lost
 
     @property
     def siblings(self):
@@ -43,15 +50,16 @@ class Round:
         return " ".join(self.title.split()[5:])
 
     def add(self, text):
-        """Takes a line of the trace. One that says that others were lost, or that is cut, makes the round not whole."""
+        """Takes a line of the trace."""
         match = LINE.match(text)
         if match and not text.startswith("#"):
             self.lines.append(Line(int(match[2]), int(match[1]), match[3].split()))
         elif KEPT in text:
             kept, written = text.split(KEPT)[1].split()[0].split("/")
-            self.is_whole = self.is_whole and kept == written
+            self.is_counted = True
+            self.has_lost = self.has_lost or kept != written
         elif text and not text.startswith("#"):
-            self.is_whole = False
+            self.has_lost = True
 
 
 def rounds(path):
