@@ -4,5 +4,5 @@
 mod queueing;
 mod time;
 
-pub use queueing::{online_home, queue_at_home, rehomed};
+pub use queueing::{online_home, queue_at_home, rehome};
 pub use time::{advance, tick};

@@ -40,16 +40,15 @@ pub fn online_home<Q: SiblingQueue>(core: &Core<Q>, cpu: Cpu) -> Cpu
     }
 }
 
-/// The task as it is where its home is online: there, or moved to another sibling.
-pub fn rehomed<Q: SiblingQueue>(core: &Core<Q>, task: Task) -> Task
-    requires { CanMove core.now task }
-    ensures rehomed { (beside : Beside) (table : Table) → result ≡ rehomed (room_of beside (core.now, table)) task }
-    ensures within { result.home < length core.now.lanes.items }
+/// The task stays where its home is online, and else moves to another sibling.
+#[inline(always)]
+pub fn rehome<Q: SiblingQueue>(core: &Core<Q>, task: &mut Task)
+    requires { CanMove core.now task.old }
+    ensures rehomed { (beside : Beside) (table : Table) → task.new ≡ rehomed (room_of beside (core.now, table)) task.old }
+    ensures within { task.new.home < length core.now.lanes.items }
 {
-    if core.is_online(task.home) {
-        task
-    } else {
-        core.moved_to(lowest_online(core), task)
+    if !core.is_online(task.home) {
+        *task = core.moved_to(lowest_online(core), *task);
     }
 }
 
@@ -64,23 +63,18 @@ fn preempts<Q: SiblingQueue>(core: &Core<Q>, table: &TaskTable, task: &Task) -> 
     }
 }
 
-/// The task as it is queued anew: a deadline task has its next deadline, and a fair one is pulled up to
-/// the least virtual time of its queue.
-fn refreshed<Q: SiblingQueue>(core: &Core<Q>, task: Task, now: u64) -> Task
-    requires fits { IsFit (length core.now.lanes.items) task }
+/// The task becomes what it is as it is queued anew: a deadline task has its next deadline, and a fair one is pulled
+/// up to the least virtual time of its queue.
+#[inline(always)]
+fn refresh<Q: SiblingQueue>(core: &Core<Q>, task: &mut Task, now: u64)
+    requires fits { IsFit (length core.now.lanes.items) task.old }
     requires clock { now + 1000000000 < 2 ^ 56 }
-    ensures { (beside : Beside) (table : Table) → result ≡ refreshed (room_of (at now beside) (core.now, table)) task }
+    ensures { (beside : Beside) (table : Table) → task.new ≡ refreshed (room_of (at now beside) (core.now, table)) task.old }
 {
     match task.spec.policy {
-        Policy::Deadline(relative) => Task {
-            deadline: now + relative,
-            ..task
-        },
-        Policy::Fair(_) => Task {
-            vtime: task.vtime.max(core.lanes[task.home as usize].least),
-            ..task
-        },
-        _ => task,
+        Policy::Deadline(relative) => task.deadline = now + relative,
+        Policy::Fair(_) => task.vtime = task.vtime.max(core.lanes[task.home as usize].least),
+        _ => {}
     }
 }
 
@@ -96,7 +90,8 @@ pub fn queue_at_home<Q: SiblingQueue, L: Ledger>(
     requires { MayQueue now 1 (core.old, table.old) task }
     ensures { TouchesAt now 1 (core.old, table.old) (core.new, table.new) (λ room. queue_at_home room task) }
 {
-    let fresh = refreshed(core, task, now);
+    let mut fresh = task;
+    refresh(core, &mut fresh, now);
     let preempts = preempts(core, table, &fresh);
     core.enqueue(table, fresh, steps);
     core.flag(task.home, preempts);

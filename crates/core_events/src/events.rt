@@ -11,7 +11,7 @@ ghost use Rattle.core_tasks.specs.Steps.{Makes};
 ghost use Rattle.core_events.specs.Ready.{IsReady, IsReadyAt, IsReadyFor};
 
 use cookie_steal::{Try, try_steal};
-use core_clock::{online_home, queue_at_home, rehomed};
+use core_clock::{online_home, queue_at_home, rehome};
 use core_lanes::{Core, SiblingQueue, charge, task_of};
 use core_pick::{pick_and_balance, schedule};
 use core_tasks::State;
@@ -201,13 +201,13 @@ fn wake<Q: SiblingQueue, G: Guard, L: Ledger>(
     requires ready { IsReady state.old }
     ensures { Makes state.old state.new (Event.Wake pid) result }
 {
-    let Some(task) = task_of(&state.tasks, pid) else {
+    let Some(mut task) = task_of(&state.tasks, pid) else {
         return Reply::NoTask;
     };
     if task.queued {
         return Reply::Awake;
     }
-    let task = rehomed(&state.core, task);
+    rehome(&state.core, &mut task);
     queue_at_home(&mut state.core, &mut state.tasks, task, state.clock, steps);
     Reply::Woken(task.home)
 }

@@ -35,12 +35,12 @@ pub flag-requires : goal.flag-requires
 flag-requires g c = still_below c.enqueue.ensures.stays c.requires.knows.apart.fits.home
 
 pub preempts-preempts-requires : goal.preempts-preempts-requires
-preempts-preempts-requires g c = subst (λ (n : ℕ). n < length c.args.core.now.lanes.items) (sym (keeps (c.args.core.now, c.args.table.now) c.args.now c.args.task c.refreshed-fresh.result (c.refreshed-fresh.ensures some_beside c.args.table.now)).2) c.requires.knows.apart.fits.home
+preempts-preempts-requires g c = subst (λ (n : ℕ). n < length c.args.core.now.lanes.items) (sym (keeps (c.args.core.now, c.args.table.now) c.args.now c.args.task c.refresh.new.task (c.refresh.ensures some_beside c.args.table.now)).2) c.requires.knows.apart.fits.home
 
 pub enqueue-requires : goal.enqueue-requires
 enqueue-requires g c =
     let apart = c.requires.knows.apart in
-    let fresh = keeps (c.args.core.now, c.args.table.now) c.args.now c.args.task c.refreshed-fresh.result (c.refreshed-fresh.ensures some_beside c.args.table.now) in
+    let fresh = keeps (c.args.core.now, c.args.table.now) c.args.now c.args.task c.refresh.new.task (c.refresh.ensures some_beside c.args.table.now) in
     record {
       knows = record {
         apart = record {
@@ -66,8 +66,8 @@ returns g c =
           let room = room_of (at c.args.now beside) (c.args.core.now, c.args.table.now) in
           raised.room (at c.args.now beside)
           ∙ ap (λ (now : RoomState). flag now c.args.task.home c.preempts-preempts.result) (c.enqueue.ensures.room (at c.args.now beside))
-          ∙ ap (flag (enqueue room c.refreshed-fresh.result) c.args.task.home) (c.preempts-preempts.ensures (at c.args.now beside))
-          ∙ ap (λ (fresh : Task). flag (enqueue room fresh) c.args.task.home (preempts room fresh)) (c.refreshed-fresh.ensures beside c.args.table.now);
+          ∙ ap (flag (enqueue room c.refresh.new.task) c.args.task.home) (c.preempts-preempts.ensures (at c.args.now beside))
+          ∙ ap (λ (fresh : Task). flag (enqueue room fresh) c.args.task.home (preempts room fresh)) (c.refresh.ensures beside c.args.table.now);
       numbers = raised.numbers ∙ c.enqueue.ensures.numbers;
       stays = both_stay c.enqueue.ensures.stays raised.stays;
     }

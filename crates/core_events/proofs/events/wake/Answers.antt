@@ -19,8 +19,8 @@ use Rattle.core_events.proofs.Onlines.{untouched}
 use Rattle.core_lanes.specs.Numbers.{with_ended}
 use Rattle.core_events.proofs.events.wake.Goals as goal
 
-pub rehomed-task-requires : goal.rehomed-task-requires
-rehomed-task-requires g c =
+pub rehome-requires : goal.rehome-requires
+rehome-requires g c =
     let low = low_times c.args.state.now c.requires.ready.time in
     let found = sym c.in-Some.ensures.task in
     record {
@@ -39,13 +39,13 @@ pub queue_at_home-requires : goal.queue_at_home-requires
 queue_at_home-requires g c =
     let state = c.args.state.now in
     let task = c.in-Some.task in
-    let is = c.rehomed-task.ensures.rehomed some_beside state.tasks in
+    let is = c.rehome.ensures.rehomed some_beside state.tasks in
     let same = kept (room_of some_beside (both state)) task in
     let spec = ap (λ (t : Task). t.spec) is ∙ same.0 in
     let fit = fits_found (both state) c.args.pid task c.requires.ready.sound.agree (sym c.in-Some.ensures.task) in
     record {
-      knows = knows_as (both state) c.rehomed-task.result task c.requires.ready.sound.agree (ap (λ (s : TaskSpec). s.pid) spec) (ap (λ (t : Task). t.cookie) is ∙ same.1) c.in-Some.ensures.there
-          (record { home = c.rehomed-task.ensures.within; policy = subst (λ (s : TaskSpec). IsPolicy s.policy) (sym spec) fit.policy });
+      knows = knows_as (both state) c.rehome.new.task task c.requires.ready.sound.agree (ap (λ (s : TaskSpec). s.pid) spec) (ap (λ (t : Task). t.cookie) is ∙ same.1) c.in-Some.ensures.there
+          (record { home = c.rehome.ensures.within; policy = subst (λ (s : TaskSpec). IsPolicy s.policy) (sym spec) fit.policy });
       clock = c.requires.ready.time.clock;
       stamp = omega (arith, c.requires.ready.spares.stamps);
       touches = omega (arith, c.requires.ready.spares.touches);
@@ -61,8 +61,8 @@ returns g c =
           let room = room_with intervals old in
           let beside = beside_of intervals old in
           let made : Task → Stepped = λ moved. record { reply = Woken moved.home; room = queue_at_home room moved } in
-          let is : made c.rehomed-task.result ≡ wake room (Some task) =
-          ap made (c.rehomed-task.ensures.rehomed beside old.tasks) ∙ sym (cond-false task.queued _ (made (rehomed room task)) c.if-task.false) in
+          let is : made c.rehome.new.task ≡ wake room (Some task) =
+          ap made (c.rehome.ensures.rehomed beside old.tasks) ∙ sym (cond-false task.queued _ (made (rehomed room task)) c.if-task.false) in
           uncharged (record {
             reply = ap (λ (m : Stepped). m.reply) is ∙ ap (λ found. (wake room found).reply) c.in-Some.ensures.task;
             room = queued.room beside ∙ ap (λ (m : Stepped). m.room) is ∙ ap (λ found. (wake room found).room) c.in-Some.ensures.task;
