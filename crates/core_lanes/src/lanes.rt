@@ -190,12 +190,12 @@ impl<Q: SiblingQueue> Core<Q> {
         requires { Knows (self.old, table.old) task }
         ensures { Changes (self.old, table.old) (self.new, table.new) (λ room. with_task room task) }
     {
-        let old = task_of(table, task.spec.pid).unwrap();
-        if is_alike(&old, &task) {
+        let old = table.find(task.spec.pid).unwrap();
+        if is_alike(old, &task) {
             table.change(task);
             return;
         }
-        self.take(table, &old, steps);
+        self.take(table, old, steps);
         table.change(task);
         self.put(table, &task, steps);
     }

@@ -1,4 +1,5 @@
 use Rattle.std.proofs.Common.{◌≡◌, ◌<◌, ℕ, List, refl, sym, subst, ap, ◌∙◌, map, length}
+use Rattle.std.specs.Prelude.{option_copied}
 use Rattle.std.proofs.lemmas.Bool.{eqb-true}
 use Rattle.cs_types.specs.declared.task.Task.{Task}
 use Rattle.cs_types.specs.Room.{has_pid, with_task}
@@ -47,12 +48,12 @@ returns-then-is_alike g c =
     let before = c.args.table.now in
     let agree = c.requires.known.apart.agree in
     let changed = c.change.ensures.changed in
-    let there = sym c.task_of.ensures.task ∙ c.unwrap-old.ensures in
+    let there = sym c.find.ensures.task ∙ ap option_copied c.unwrap-old.ensures in
     let alike = sym c.is_alike.ensures ∙ c.if-is_alike.true in
     let held : AreHeld (c.args.self.now, c.change.new.self) =
     subst (λ (t : Table). AreHeld (c.args.self.now, t)) (sym changed) (
     λ cpu queue at.
-    subst (λ qs. g.Q.SiblingQueue.holds queue before.limit qs) (sym (queued_at-alike task c.unwrap-old.result before.tasks cpu agree.table.rising there alike))
+    subst (λ qs. g.Q.SiblingQueue.holds queue before.limit qs) (sym (queued_at-alike task c.unwrap-old.result.now before.tasks cpu agree.table.rising there alike))
     (agree.held cpu queue at)
     ) in
     let core = c.args.self.now in
@@ -65,11 +66,11 @@ returns-then-is_alike g c =
 pub take-requires : goal.take-requires
 take-requires g c =
     let tasks = c.args.table.now.tasks in
-    let found = sym c.task_of.ensures.task ∙ c.unwrap-old.ensures in
+    let found = sym c.find.ensures.task ∙ ap option_copied c.unwrap-old.ensures in
     record {
       table = c.requires.known.apart.agree.table;
-      there = found_again c.args.task.spec.pid tasks c.unwrap-old.result found;
-      home = (found_in (IsFit (length c.args.self.now.lanes.items)) c.args.task.spec.pid tasks c.unwrap-old.result c.requires.known.apart.agree.tasks found).home;
+      there = found_again c.args.task.spec.pid tasks c.unwrap-old.result.now found;
+      home = (found_in (IsFit (length c.args.self.now.lanes.items)) c.args.task.spec.pid tasks c.unwrap-old.result.now c.requires.known.apart.agree.tasks found).home;
       held = c.requires.known.apart.agree.held;
     }
 
@@ -78,8 +79,8 @@ put-requires-clause-home g c =
     let apart = c.requires.known.apart in
     let task = c.args.task in
     let before = c.args.table.now in
-    let pid : c.unwrap-old.result.spec.pid ≡ task.spec.pid =
-    eqb-true _ task.spec.pid (find_passes (has_pid task.spec.pid) before.tasks c.unwrap-old.result (sym c.task_of.ensures.task ∙ c.unwrap-old.ensures)) in
+    let pid : c.unwrap-old.result.now.spec.pid ≡ task.spec.pid =
+    eqb-true _ task.spec.pid (find_passes (has_pid task.spec.pid) before.tasks c.unwrap-old.result.now (sym c.find.ensures.task ∙ ap option_copied c.unwrap-old.ensures)) in
     let held = subst (λ n. AreHeldBut n (c.take.new.self, before)) pid c.take.ensures.held in
     record {
       table = c.change-2.ensures.sound;
