@@ -314,10 +314,8 @@ impl<Q: SiblingQueue> Core<Q> {
         requires { MayDequeue (self.old, table.old) task }
         ensures { Touches 1 (self.old, table.old) (self.new, table.new) (λ room. dequeue room task) }
     {
-        let asleep = Task {
-            queued: false,
-            ..task
-        };
+        let mut asleep = task;
+        asleep.queued = false;
         self.change(table, asleep, steps);
         self.touch();
     }
@@ -330,11 +328,9 @@ impl<Q: SiblingQueue> Core<Q> {
     {
         let stamp = self.next_stamp;
         self.next_stamp += 1;
-        let queued = Task {
-            queued: true,
-            stamp,
-            ..task
-        };
+        let mut queued = task;
+        queued.queued = true;
+        queued.stamp = stamp;
         self.change(table, queued, steps);
         self.touch();
     }
