@@ -1,6 +1,6 @@
 //! A run with what it shows over time.
 
-ghost use Rattle.std.specs.Prelude.{◌≡◌, ◌+◌, ◌*◌, ◌≤◌, All, IfOk, length};
+ghost use Rattle.std.specs.Prelude.{◌≡◌, ◌+◌, ◌*◌, ◌≤◌, [], All, IfOk, length};
 ghost use Rattle.cs_types.specs.Scenario.{IsEvent};
 
 use crate::recorder::Recorder;
@@ -34,6 +34,7 @@ pub fn recorded_run<R: Room>(
     room: &mut R,
     steps: &[Step],
 ) -> Result<RunStretches, OutOfMemory>
+    requires empty { R.history room.old ≡ [] }
     requires spare { length steps.now + (R.opening room.old).scenario.siblings * (R.opening room.old).scenario.siblings
         ≤ R.spare room.old }
     requires events { All (λ step. IsEvent (R.opening room.old).scenario.siblings step.event) steps.now }

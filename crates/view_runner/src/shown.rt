@@ -79,6 +79,7 @@ fn write_shown<R: Room, K: Sink>(
     steps: &[Step],
     sink: &mut K,
 ) -> Status
+    requires empty { R.history room ≡ [] }
     requires spare { length steps.now + (R.opening room).scenario.siblings * (R.opening room).scenario.siblings
         ≤ R.spare room }
     requires events { All (λ step. IsEvent (R.opening room).scenario.siblings step.event) steps.now }
