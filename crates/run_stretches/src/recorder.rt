@@ -98,22 +98,9 @@ fn now_of<R: Room>(room: &R, cpu: Cpu, has_queued: bool) -> Now
     }
 }
 
-/// Whether both do the same.
-fn is_same_doing(a: Doing, b: Doing) -> bool {
-    match (a, b) {
-        (Doing::Offline, Doing::Offline) => true,
-        (Doing::Idles, Doing::Idles) => true,
-        (Doing::Runs(a), Doing::Runs(b)) => a == b,
-        (Doing::ForcedIdle(a), Doing::ForcedIdle(b)) => a == b,
-        _ => false,
-    }
-}
-
 /// Whether the stretch goes on with what its sibling does now.
 fn goes_on(stretch: Stretch, now: Now) -> bool {
-    stretch.pid == now.pid
-        && stretch.pending == now.pending
-        && is_same_doing(stretch.doing, now.doing)
+    stretch.pid == now.pid && stretch.pending == now.pending && stretch.doing == now.doing
 }
 
 impl Recorder {

@@ -33,7 +33,7 @@ is_pending room cpu = is_online room cpu && (sibling_of room cpu).pending
 abbrev pub siblings_of : RoomState → List ℕ
 siblings_of room = range_with_len 0 (length room.siblings)
 
--- whether some sibling is
+-- whether some sibling is online and pending
 abbrev pub some_pending : RoomState → Bool
 some_pending room = list_any (is_pending room) (siblings_of room)
 

@@ -3,7 +3,7 @@
 use cs_types::Cookie;
 
 /// What a sibling does at a moment.
-#[derive(Clone, Copy)]
+#[derive(Clone, Copy, PartialEq, Eq)]
 pub enum Doing {
     /// It is offline.
     Offline,

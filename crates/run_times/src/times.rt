@@ -137,6 +137,7 @@ impl RunTimes {
             self.advance(room, time);
         }
     }
+
     /// The times of each sibling, by rising number.
     pub fn siblings(&self) -> &[SiblingTimes]
         ensures { result.now ≡ self.now.siblings }
@@ -151,7 +152,8 @@ impl RunTimes {
         self.exposed
     }
 
-    /// The longest that they did without a break, in ns. What takes no time is none.
+    /// The longest time without a break for which two online siblings ran tasks with distinct cookies, in ns, 0 where
+    /// they never did.
     pub fn longest_exposed(&self) -> u64
         ensures { result ≡ self.now.longest }
     {
