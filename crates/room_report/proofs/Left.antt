@@ -1,5 +1,5 @@
 -- Left: which lines of each part are left at a index of its loop.
-use Rattle.std.proofs.Common.{◌≡◌, ℕ, suc, ◌+◌, ◌-◌, ◌<◌, ◌≤◌, Bool, List, [], ◌∷◌, ◌++◌, map, length, drop, take, refl, sym, ap, ◌∙◌, append_assoc, subst, take_all, arith, Option, Some, None}
+use Rattle.std.proofs.Common.{◌≡◌, ℕ, suc, ◌+◌, ◌-◌, ◌<◌, ◌≤◌, Bool, List, [], ◌∷◌, ◌++◌, map, length, drop, take, refl, sym, ap, ◌∙◌, append_assoc, subst, arith, Option, Some, None}
 use Rattle.std.specs.Prelude.{filter, slice_get, unwrap_or, All, if◌then◌else◌, codes}
 use Rattle.std.specs.List.{flat_map, filter_map, cons_option, range_with_len}
 use Rattle.std.specs.Option.{option_map, IsSome}
@@ -40,16 +40,10 @@ drop_next {X = X} xs n x at =
     rw e (drop-cons xs n x within ∙ ap (λ (y : X). y ∷ drop (suc n) xs) (get_or_from_slice_get xs n x x at))
 
 -- where there is no element, nothing is left
-pub drop_none : {X : Type 0} (xs : List X) (n : ℕ) → slice_get xs n ≡ None → drop n xs ≡ []
+drop_none : {X : Type 0} (xs : List X) (n : ℕ) → slice_get xs n ≡ None → drop n xs ≡ []
 drop_none [] n at = drop_all n [] (omega arith)
 drop_none (x ∷ xs) n at =
     drop_all n (x ∷ xs) (omega (arith, λ (few : n < length (x ∷ xs)). none-some _ (sym at ∙ slice_get-get_or (x ∷ xs) n x few)))
-
--- and all is before
-pub take_none : {X : Type 0} (xs : List X) (n : ℕ) → slice_get xs n ≡ None → take n xs ≡ xs
-take_none [] n at = take_all n [] (omega arith)
-take_none (x ∷ xs) n at =
-    take_all n (x ∷ xs) (omega (arith, λ (few : n < length (x ∷ xs)). none-some _ (sym at ∙ slice_get-get_or (x ∷ xs) n x few)))
 
 -- what is the value of a function is so at some element
 mapped_some : {X Y : Type 0} (f : X → Y) (at : Option X) (y : Y) → Some y ≡ option_map f at → (x : X) × (at ≡ Some x) × (y ≡ f x)

@@ -33,10 +33,8 @@ pub(crate) fn write_entries<R: Room, K: Sink>(room: &R, sink: &mut K) -> Result<
 {
     let mut line = Line::new();
     for index in 0..room.length() {
-        match room.entry(index) {
-            Some(entry) => entry_text(&entry, &mut line, sink)?,
-            None => return Ok(()),
-        }
+        let entry = room.entry(index).unwrap();
+        entry_text(&entry, &mut line, sink)?;
     }
     Ok(())
 }

@@ -1,5 +1,5 @@
 -- Counts: the counts of replies, entry by entry.
-use Rattle.std.proofs.Common.{◌≡◌, ℕ, ◌+◌, ◌<◌, ◌≤◌, Bool, true, false, cond, [], ◌∷◌, ◌++◌, length, take, get_or, refl, sym, ap, ◌∙◌, subst, inl, inr, arith, Some, None}
+use Rattle.std.proofs.Common.{◌≡◌, ℕ, ◌+◌, ◌<◌, ◌≤◌, Bool, true, false, cond, [], ◌∷◌, ◌++◌, length, take, get_or, refl, sym, ap, ◌∙◌, subst, inl, inr, arith, Some}
 use Rattle.std.specs.Prelude.{filter, slice_get}
 use Rattle.std.proofs.lemmas.List.{append-nil, length-append, take_more}
 use Rattle.std.proofs.lemmas.List.Elements.{filter-append}
@@ -124,7 +124,3 @@ refused_adds_up (entry ∷ history) =
       once entry.reply,
       refused_adds_up history,
     )
-
--- past the last entry there is none
-pub none_past : (history : History) (place : ℕ) → None ≡ slice_get history place → length history ≤ place
-none_past history place none = elim (slice_get_cases history place).1 [ inl found ↦ absurd cc | inr past ↦ past.0 ]

@@ -78,9 +78,8 @@ impl ReplyCounts {
     {
         let mut counts = ReplyCounts::none();
         for place in 0..room.length() {
-            if let Some(entry) = room.entry(place) {
-                counts.add(entry.reply);
-            }
+            let entry = room.entry(place).unwrap();
+            counts.add(entry.reply);
         }
         counts
     }

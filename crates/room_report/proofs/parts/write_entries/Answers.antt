@@ -5,41 +5,25 @@ use Rattle.cs_types.specs.declared.reply.Entry.{Entry}
 use Rattle.scenario_text.specs.Text.{entry_text}
 use Rattle.scenario_text.specs.Entry.{FitsReply}
 use Rattle.cs_outside.proofs.Reached.{reached_more, reached_prefix, whole_prefix, reached_end}
-use Rattle.room_report.proofs.Left.{drop_none, take_none, entries_next, fits_next}
+use Rattle.room_report.proofs.Left.{entries_next, fits_next}
 use Rattle.room_report.proofs.parts.write_entries.Goals as goal
 
-pub returns-in_err-entry_text-in-Some-clause-prefix : goal.returns-in_err-entry_text-in-Some-clause-prefix
-returns-in_err-entry_text-in-Some-clause-prefix g c =
+pub returns-in_err-entry_text-clause-prefix : goal.returns-in_err-entry_text-clause-prefix
+returns-in_err-entry_text-clause-prefix g c =
     reached_prefix _ _ _ _ _ _ _ _ c.loop-index.invariant.reached
-    (entries_next (g.R.Room.history c.args.room.now) c.loop-index.index c.in-Some.entry (sym c.in-Some.ensures))
+    (entries_next (g.R.Room.history c.args.room.now) c.loop-index.index c.unwrap-entry.result (sym c.entry.ensures ∙ c.unwrap-entry.ensures))
     refl c.entry_text.ensures.prefix
 
 pub loop-index-preserved : goal.loop-index-preserved
 loop-index-preserved g c = record {
   reached = reached_more _ _ _ _ _ _ _ _ c.loop-index.invariant.reached
-      (entries_next (g.R.Room.history c.args.room.now) c.loop-index.index c.in-Some.entry (sym c.in-Some.ensures))
-      refl c.in_ok-entry_text-in-Some.ensures.ok;
-  faultless = c.in_ok-entry_text-in-Some.ensures.faultless ∙ c.loop-index.invariant.faultless;
+      (entries_next (g.R.Room.history c.args.room.now) c.loop-index.index c.unwrap-entry.result (sym c.entry.ensures ∙ c.unwrap-entry.ensures))
+      refl c.in_ok-entry_text.ensures.ok;
+  faultless = c.in_ok-entry_text.ensures.faultless ∙ c.loop-index.invariant.faultless;
   numbers =
-      fits_next (g.R.Room.history c.args.room.now) c.loop-index.index c.in-Some.entry (sym c.in-Some.ensures)
+      fits_next (g.R.Room.history c.args.room.now) c.loop-index.index c.unwrap-entry.result (sym c.entry.ensures ∙ c.unwrap-entry.ensures)
       c.loop-index.invariant.numbers (search rules);
 }
-
--- a place below the length has an entry
-pub returns-in-None-clause-ok : goal.returns-in-None-clause-ok
-returns-in-None-clause-ok g c =
-    reached_end _ _ _ _ c.loop-index.invariant.reached
-    (ap (flat_map entry_text) (drop_none (g.R.Room.history c.args.room.now) c.loop-index.index (sym c.in-None.ensures)))
-
-pub returns-in-None-clause-prefix : goal.returns-in-None-clause-prefix
-returns-in-None-clause-prefix g c =
-    whole_prefix _ _ _ (reached_end _ _ _ _ c.loop-index.invariant.reached
-    (ap (flat_map entry_text) (drop_none (g.R.Room.history c.args.room.now) c.loop-index.index (sym c.in-None.ensures))))
-
-pub returns-in-None-clause-numbers : goal.returns-in-None-clause-numbers
-returns-in-None-clause-numbers g c =
-    subst (All (λ (entry : Entry). FitsReply entry.reply))
-    (take_none (g.R.Room.history c.args.room.now) c.loop-index.index (sym c.in-None.ensures)) c.loop-index.invariant.numbers
 
 pub returns-clause-prefix : goal.returns-clause-prefix
 returns-clause-prefix g c =

@@ -1,8 +1,7 @@
-use Rattle.std.proofs.Common.{◌∙◌, take, arith}
+use Rattle.std.proofs.Common.{◌∙◌, sym, take, arith}
 use Rattle.std.proofs.lemmas.List.{length-take-le}
-use Rattle.run_summary.proofs.Counts.{replies_more, replies_below, none_past}
+use Rattle.run_summary.proofs.Counts.{replies_more, replies_below}
 use Rattle.run_summary.proofs.replies.ReplyCounts.of.Goals as goal
-use Rattle.run_summary.proofs.replies.ReplyCounts.of.Goals.{in-Some, in_default}
 
 pub add-requires : goal.add-requires
 add-requires g c =
@@ -12,8 +11,5 @@ add-requires g c =
 
 pub loop-place-preserved : goal.loop-place-preserved
 loop-place-preserved g c =
-    let history = g.R.Room.history c.args.room.now in
-    elim c.match-entry.branch [
-      | in-Some w ↦ replies_more history c.loop-place.place w.in-Some.entry c.loop-place.counts _ w.in-Some.ensures c.loop-place.invariant (w.counts-is ∙ w.add.ensures)
-      | in_default w ↦ absurd (omega (arith, none_past history c.loop-place.place w.in_default.ensures, c.length-place-end.ensures.length, c.loop-place-test.true))
-    ]
+    replies_more (g.R.Room.history c.args.room.now) c.loop-place.place c.unwrap-entry.result c.loop-place.counts _
+    (sym c.unwrap-entry.ensures ∙ c.entry.ensures) c.loop-place.invariant c.add.ensures
