@@ -1,11 +1,13 @@
 //! Keeps what a run shows while it is played.
 
+ghost use Rattle.std.specs.Prelude.{◌≡◌, ◌<◌, IfOk};
 ghost use Rattle.cs_types.specs.Scenario.{IsPlayable};
 
 use crate::stretches::{RunStretches, Stretch, Window};
-use cs_types::{Cookie, Cpu, OutOfMemory, Pid, Room, TaskView};
-use run_times::{Doing, cookie_run, is_exposed};
+use cs_types::{Cookie, Cpu, Event, OutOfMemory, Pid, Room, TaskView};
+use run_times::{Doing, advance_of, cookie_run, is_exposed};
 use std::alloc::Global;
+use std::marker::Model;
 
 /// What a sibling does at a moment.
 #[derive(Clone, Copy)]
@@ -20,11 +22,23 @@ struct Now {
 pub(crate) struct Recorder {
     shown: RunStretches,
     /// The place of each sibling's open stretch. `None` before the first advance.
-    open: Vec<Option<usize>>,
+    open_stretches: Vec<Option<usize>>,
     /// Whether a task is queued on each sibling, as it was when this was last asked.
     queued: Vec<bool>,
     /// Whether that is still so. An advance changes no queue.
     is_queued_known: bool,
+}
+
+// It stands for how many siblings the core has.
+impl Model for Recorder {
+    ghost use Rattle.std.specs.Prelude.{◌≡◌, ℕ, vec_len};
+
+    ghost Value = { ℕ };
+
+    ghost view = { λ recorder. recorder.shown.siblings };
+
+    ghost invariant = { λ recorder. (vec_len recorder.open_stretches ≡ recorder.shown.siblings)
+        × (vec_len recorder.queued ≡ recorder.shown.siblings) };
 }
 
 /// Marks the home of a task that is queued.
@@ -105,7 +119,9 @@ fn goes_on(stretch: Stretch, now: Now) -> bool {
 
 impl Recorder {
     /// What a run of a core with this number of siblings showed before its first step.
-    pub(crate) fn open(alloc: Global, siblings: u8) -> Result<Self, OutOfMemory> {
+    pub(crate) fn of(alloc: Global, siblings: u8) -> Result<Self, OutOfMemory>
+        ensures { IfOk result (λ recorder. recorder ≡ siblings) }
+    {
         Ok(Recorder {
             shown: RunStretches {
                 siblings,
@@ -114,25 +130,26 @@ impl Recorder {
                 windows: Vec::new(alloc),
                 moments: Vec::new(alloc),
             },
-            open: vec![in alloc; None; usize::from(siblings)]?,
+            open_stretches: vec![in alloc; None; usize::from(siblings)]?,
             queued: vec![in alloc; false; usize::from(siblings)]?,
             is_queued_known: false,
         })
     }
 
     /// Takes in what a sibling does from one moment to another.
-    fn keep_stretch(&mut self, cpu: Cpu, now: Now, from: u64, to: u64) -> Result<(), OutOfMemory> {
-        let Some(open) = self.open.get_mut(usize::from(cpu)) else {
-            return Ok(());
-        };
-        if let Some(place) = *open
+    fn keep_stretch(&mut self, cpu: Cpu, now: Now, from: u64, to: u64) -> Result<(), OutOfMemory>
+        requires { cpu < self.old }
+        ensures { self.new ≡ self.old }
+    {
+        let kept = &mut self.open_stretches[usize::from(cpu)];
+        if let Some(place) = *kept
             && let Some(stretch) = self.shown.stretches.get_mut(place)
             && goes_on(*stretch, now)
         {
             stretch.to = to;
             return Ok(());
         }
-        *open = Some(self.shown.stretches.len());
+        *kept = Some(self.shown.stretches.len());
         self.shown.stretches.push(Stretch {
             from,
             to,
@@ -145,7 +162,9 @@ impl Recorder {
     }
 
     /// Takes in that two siblings run tasks with distinct cookies from one moment to another.
-    fn keep_window(&mut self, from: u64, to: u64) -> Result<(), OutOfMemory> {
+    fn keep_window(&mut self, from: u64, to: u64) -> Result<(), OutOfMemory>
+        ensures { self.new ≡ self.old }
+    {
         if let Some(window) = self.shown.windows.last_mut()
             && window.to == from
         {
@@ -157,7 +176,10 @@ impl Recorder {
     }
 
     /// Takes in an advance by this time, in ns, that is to be made next in the room.
-    pub(crate) fn advance<R: Room>(&mut self, room: &R, time: u64) -> Result<(), OutOfMemory> {
+    fn advance<R: Room>(&mut self, room: &R, time: u64) -> Result<(), OutOfMemory>
+        requires { self.old ≡ (R.opening room.now).scenario.siblings }
+        ensures { self.new ≡ self.old }
+    {
         if !self.is_queued_known && some_runs_idle(room) {
             mark_queued(room, self.queued.as_mut_slice());
             self.is_queued_known = true;
@@ -165,7 +187,7 @@ impl Recorder {
         let from = room.clock();
         let to = from.saturating_add(time);
         for cpu in 0..room.siblings() {
-            let has_queued = self.queued.get(usize::from(cpu)).copied().unwrap_or(false);
+            let has_queued = self.queued[usize::from(cpu)];
             self.keep_stretch(cpu, now_of(room, cpu, has_queued), from, to)?;
         }
         if is_exposed(room) {
@@ -175,8 +197,21 @@ impl Recorder {
         Ok(())
     }
 
+    /// Takes in an event that is to be made next in the room.
+    pub(crate) fn before<R: Room>(&mut self, room: &R, event: Event) -> Result<(), OutOfMemory>
+        requires { self.old ≡ (R.opening room.now).scenario.siblings }
+        ensures { self.new ≡ self.old }
+    {
+        match advance_of(event) {
+            Some(time) => self.advance(room, time),
+            None => self.moment(room.clock()),
+        }
+    }
+
     /// Takes in that an event that takes no time is made at this moment.
-    pub(crate) fn moment(&mut self, clock: u64) -> Result<(), OutOfMemory> {
+    pub(crate) fn moment(&mut self, clock: u64) -> Result<(), OutOfMemory>
+        ensures { self.new ≡ self.old }
+    {
         self.is_queued_known = false;
         if self.shown.moments.last().copied() != Some(clock) {
             self.shown.moments.push(clock)?;

@@ -5,22 +5,20 @@ ghost use Rattle.cs_types.specs.Scenario.{IsEvent};
 
 use crate::recorder::Recorder;
 use crate::stretches::RunStretches;
-use cs_types::{Event, OutOfMemory, Room, Step};
+use cs_types::{OutOfMemory, Room, Step};
 use std::alloc::Global;
 
 /// Makes the steps, in their order, and keeps what they show.
 fn play<R: Room>(room: &mut R, steps: &[Step], recorder: &mut Recorder) -> Result<(), OutOfMemory>
     requires spare { length steps.now ≤ R.spare room.old }
     requires events { All (λ step. IsEvent (R.opening room.old).scenario.siblings step.event) steps.now }
+    requires siblings { recorder.old ≡ (R.opening room.old).scenario.siblings }
 
     ensures spare { IfOk result (λ _. R.spare room.new + length steps.now ≡ R.spare room.old) }
     ensures opening { R.opening room.new ≡ R.opening room.old }
 {
     for step in steps {
-        match step.event {
-            Event::Advance(time) => recorder.advance(room, time)?,
-            _ => recorder.moment(room.clock())?,
-        }
+        recorder.before(room, step.event)?;
         room.apply(step.actor, step.event);
     }
     Ok(())
@@ -41,7 +39,7 @@ pub fn recorded_run<R: Room>(
 
     ensures { R.opening room.new ≡ R.opening room.old }
 {
-    let mut recorder = Recorder::open(alloc, room.siblings())?;
+    let mut recorder = Recorder::of(alloc, room.siblings())?;
     play(room, steps, &mut recorder)?;
     if room.drain() > 0 {
         recorder.moment(room.clock())?;

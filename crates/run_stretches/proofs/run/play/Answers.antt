@@ -16,5 +16,6 @@ pub loop-step-preserved : goal.loop-step-preserved
 loop-step-preserved g c =
     record {
       opening = c.apply.ensures.opening ∙ c.loop-step.invariant.opening;
+      recorder = c.in_ok-before.ensures ∙ c.loop-step.invariant.recorder;
       spare = omega (arith, c.apply.ensures.spare, c.loop-step.invariant.spare);
     }

@@ -6,5 +6,6 @@ invariant-loop-step g l =
     let room = g.R.Room in
     record {
       opening : room.opening l.room ≡ room.opening l.fn.room;
+      recorder : l.recorder ≡ l.fn.recorder;
       spare : room.spare l.room + l.step-index ≡ room.spare l.fn.room;
     }
