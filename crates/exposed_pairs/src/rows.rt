@@ -34,7 +34,7 @@ fn add(rows: &mut Vec<PairTime>, low: Cookie, high: Cookie, time: u64)
     requires rows { AreRows rows.old.items }
     requires distinct { low < high }
     requires some { 0 < time }
-    requires room { vec_len rows.old < vec_capacity rows.old }
+    requires spare { vec_len rows.old < vec_capacity rows.old }
     requires fits { time_of rows.old.items low high + time ≤ u64.MAX }
     ensures rows { AreRows rows.new.items }
     ensures times { (a : ℕ) (b : ℕ) → time_of rows.new.items a b
@@ -61,7 +61,7 @@ fn add_with(rows: &mut Vec<PairTime>, cookie: Cookie, others: &[Cookie], time: u
     requires apart { All (λ other. other ≢ cookie) others.now }
     requires distinct { AllPairs (λ other another. other ≢ another) others.now }
     requires some { 0 < time }
-    requires room { vec_len rows.old + length others.now ≤ vec_capacity rows.old }
+    requires spare { vec_len rows.old + length others.now ≤ vec_capacity rows.old }
     requires fits { (a : ℕ) (b : ℕ) → a < b → joins cookie others.now a b ≡ true →
         time_of rows.old.items a b + time ≤ u64.MAX }
     ensures rows { AreRows rows.new.items }
@@ -80,7 +80,7 @@ pub(crate) fn add_each(rows: &mut Vec<PairTime>, cookies: &[Cookie], time: u64)
     requires rows { AreRows rows.old.items }
     requires distinct { AllPairs (λ cookie other. cookie ≢ other) cookies.now }
     requires some { 0 < time }
-    requires room { vec_len rows.old + pairs_among (length cookies.now) ≤ vec_capacity rows.old }
+    requires spare { vec_len rows.old + pairs_among (length cookies.now) ≤ vec_capacity rows.old }
     requires fits { (a : ℕ) (b : ℕ) → a < b → time_of rows.old.items a b + time ≤ u64.MAX }
     ensures rows { AreRows rows.new.items }
     ensures times { (a : ℕ) (b : ℕ) → a < b → time_of rows.new.items a b

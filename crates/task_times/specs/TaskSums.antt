@@ -70,7 +70,7 @@ had times = times.ran + times.waited + times.slept
 
 -- what is told of the tasks of a run
 pub record TaskSums : Type 0 where
-  -- how many entries there is room for
+  -- how many entries they were opened for
   pub entries : ℕ
   -- the times of each task, by its pid
   pub tasks : List TaskTimes

@@ -151,7 +151,7 @@ fn charge_cookies(cookies: &mut [CookieTimes], tasks: &[TaskTimes])
 }
 
 impl RunTasks {
-    /// The times before the first entry, with room for this number of entries: those of the steps, and those of the end
+    /// The times before the first entry, for this number of entries: those of the steps, and those of the end
     /// where these are told too.
     pub fn open(alloc: Global, entries: usize) -> Result<Self, AllocError>
         requires { entries < 2 ^ 26 }
@@ -199,7 +199,7 @@ impl RunTasks {
     }
 
     /// Takes in an event that is to be made next in the room, whoever makes it. The room has to be the one whose times
-    /// these are, and may have made as many entries as there is room for.
+    /// these are, and may have made as many entries as these were opened for.
     pub fn before<R: Room>(&mut self, room: &R, event: Event)
         requires playable { IsPlayable (R.opening room.now).scenario }
         requires events { AreEvents (R.opening room.now) (R.history room.now) }
@@ -218,7 +218,8 @@ impl RunTasks {
     }
 
     /// Notes what each task was charged and the cookie for which that counts, and adds it up by cookies, at the end of a
-    /// run. The room has to be the one whose times these are, and may have made as many entries as there is room for.
+    /// run. The room has to be the one whose times these are, and may have made as many entries as these
+    /// were opened for.
     pub fn close<R: Room>(&mut self, room: &R)
         requires playable { IsPlayable (R.opening room.now).scenario }
         requires times { self.old ≡ sums.sums_so_far self.old.entries (R.opening room.now) (R.history room.now) }

@@ -120,7 +120,7 @@ impl CookieTimes {
         }
     }
 
-    /// Adds what a task was charged. There has to be room for the most that can be.
+    /// Adds what a task was charged. The most that can be has to fit.
     pub(crate) fn charge(&mut self, charged: u64)
         requires { self.old.charged + u64.MAX ≤ u128.MAX }
         ensures sum { self.new ≡ charged_more charged self.old }

@@ -44,7 +44,7 @@ impl SiblingQueue for TreeQueue {
 
     fn with_capacity(alloc: Global, most: u16) -> Result<TreeQueue, OutOfMemory> {
         let arrivals = Arrivals::with_capacity(alloc, most)?;
-        let run = run_with_room(alloc, most)?;
+        let run = run_with_capacity(alloc, most)?;
         Ok(TreeQueue {
             run,
             first: None,
@@ -197,7 +197,7 @@ impl SiblingQueue for TreeQueue {
 }
 
 /// A run queue with no task, which can take `most`.
-fn run_with_room(alloc: Global, most: u16) -> Result<RunQueue, OutOfMemory>
+fn run_with_capacity(alloc: Global, most: u16) -> Result<RunQueue, OutOfMemory>
     ensures { IfOk result (λ run. Holds run most []) }
 {
     let mut run = RunQueue::empty(alloc);

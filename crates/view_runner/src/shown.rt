@@ -37,7 +37,7 @@ fn write_table<K: Sink>(run: &RunStretches, sink: &mut K) -> Status
 }
 
 /// Writes the picture, and says how that ended.
-fn drawn<K: Sink>(run: &RunStretches, sink: &mut K) -> Status
+fn write_picture<K: Sink>(run: &RunStretches, sink: &mut K) -> Status
     ensures { IsShown (record { bytes = K.written; faults = K.faults; before = sink.old; after = sink.new }) result }
 {
     match picture(run, sink) {
@@ -66,7 +66,7 @@ fn write_form<K: Sink>(alloc: Global, form: Form, run: &RunStretches, sink: &mut
     match form {
         Form::Table => write_table(run, sink),
         Form::Json => write_json(alloc, run, sink),
-        Form::Picture => drawn(run, sink),
+        Form::Picture => write_picture(run, sink),
     }
 }
 

@@ -1,5 +1,5 @@
 use Rattle.std.proofs.Common.{◌∙◌, arith}
-use Rattle.tree_queue.proofs.queue.run_with_room.Goals as goal
+use Rattle.tree_queue.proofs.queue.run_with_capacity.Goals as goal
 
 pub returns : goal.returns
 returns c = record {
