@@ -7,6 +7,5 @@ mod looks;
 mod sums;
 mod times;
 
-pub use doing::TaskDoing;
 pub use sums::RunTasks;
 pub use times::{CookieTimes, TaskTimes};

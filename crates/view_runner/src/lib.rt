@@ -6,4 +6,4 @@ mod played;
 mod shown;
 
 pub use command::run;
-pub use scenario_input::{GuardKind, Status};
+pub use scenario_input::Status;
