@@ -2,6 +2,7 @@
 
 ghost use Rattle.std.specs.Prelude.{◌^◌, ◌<◌, ◌≤◌};
 
+use crate::legend::LEGEND_LINES;
 use cs_types::Cpu;
 
 /// Where the lanes begin, from the left edge.
@@ -50,9 +51,6 @@ const LANES_TOP: u64 = EXPOSED_TOP + EXPOSED_HEIGHT + 14;
 
 /// How high a line of the legend is.
 pub(crate) const LEGEND_STEP: u64 = 23;
-
-/// How many lines the legend has.
-pub(crate) const LEGEND_LINES: u64 = 9;
 
 /// The frame of a page with this number of lanes.
 #[derive(Clone, Copy)]

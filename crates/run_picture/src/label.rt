@@ -5,9 +5,9 @@ ghost use Rattle.cs_outside.specs.Device.{Rose};
 
 use crate::piece::{Piece, write_pieces};
 use crate::scale::{Strip, UNIT};
-use crate::unit::power_of_ten;
 use cs_outside::{Failed, Sink};
 use cs_types::{Cookie, Pid};
+use itoa::Buffer;
 use run_stretches::Stretch;
 use run_times::Doing;
 
@@ -33,12 +33,8 @@ enum Label {
 fn digits(number: u64) -> u64
     ensures { result ≤ 20 }
 {
-    for count in 1..20 {
-        if number < power_of_ten(count) {
-            return u64::from(count);
-        }
-    }
-    20
+    let mut buffer = Buffer::new();
+    buffer.format(number).len() as u64
 }
 
 /// The first of these labels whose letters fit in a mark of this width, in thousandths of a unit.

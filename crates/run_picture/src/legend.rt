@@ -3,7 +3,7 @@
 ghost use Rattle.std.specs.Prelude.{◌≡◌, ◌^◌, ◌<◌, OnOk, OnErr};
 ghost use Rattle.cs_outside.specs.Device.{Rose};
 
-use crate::frame::{COOKIES_LEFT, Frame, LEFT, LEGEND_LINES, LEGEND_STEP};
+use crate::frame::{COOKIES_LEFT, Frame, LEFT, LEGEND_STEP};
 use crate::look::{Hatch, Look};
 use crate::paint::Paint;
 use crate::piece::{Piece, write_pieces};
@@ -12,8 +12,8 @@ use cs_types::Cookie;
 use run_stretches::{RunStretches, Stretch};
 use run_times::Doing;
 
-/// How many cookies the legend has room for, in two columns.
-const COOKIES: u8 = 18;
+/// How many cookies the legend can show, in two columns.
+const COOKIES: u64 = 2 * LEGEND_LINES;
 
 /// What a line of the legend explains.
 #[derive(Clone, Copy)]
@@ -29,22 +29,23 @@ enum Entry {
     Pointer,
 }
 
-impl Entry {
-    /// The entry of a line, from 0 on.
-    fn at(line: u64) -> Entry {
-        match line {
-            0 => Entry::Runs,
-            1 => Entry::Forced,
-            2 => Entry::Idles,
-            3 => Entry::Offline,
-            4 => Entry::Pending,
-            5 => Entry::Exposed,
-            6 => Entry::Events,
-            7 => Entry::Several,
-            _ => Entry::Pointer,
-        }
-    }
+/// The entries, from the first line on.
+const ENTRIES: [Entry; 9] = [
+    Entry::Runs,
+    Entry::Forced,
+    Entry::Idles,
+    Entry::Offline,
+    Entry::Pending,
+    Entry::Exposed,
+    Entry::Events,
+    Entry::Several,
+    Entry::Pointer,
+];
 
+/// How many lines the legend has.
+pub(crate) const LEGEND_LINES: u64 = ENTRIES.len() as u64;
+
+impl Entry {
     /// What is said of the mark.
     fn words(self) -> &'static str {
         match self {
@@ -138,7 +139,7 @@ fn write_entries<K: Sink>(sink: &mut K, top: u64) -> Result<(), Failed>
     ensures failed { OnErr result (Rose (K.faults sink.old) (K.faults sink.new)) }
 {
     for line in 0..LEGEND_LINES {
-        let entry = Entry::at(line);
+        let entry = ENTRIES[line as usize];
         write_place(sink, LEFT, top + line * LEGEND_STEP)?;
         write_pieces(sink, entry.sample())?;
         write_pieces(
@@ -154,12 +155,12 @@ fn write_entries<K: Sink>(sink: &mut K, top: u64) -> Result<(), Failed>
 }
 
 /// Writes the look of a cookie, and the hatch under it.
-fn write_cookie<K: Sink>(sink: &mut K, top: u64, number: u8, cookie: Cookie) -> Result<(), Failed>
-    requires { top < 2 ^ 32 }
+fn write_cookie<K: Sink>(sink: &mut K, top: u64, number: u64, cookie: Cookie) -> Result<(), Failed>
+    requires top { top < 2 ^ 32 }
+    requires number { number < 2 ^ 32 }
     ensures faultless { OnOk result (K.faults sink.new ≡ K.faults sink.old) }
     ensures failed { OnErr result (Rose (K.faults sink.old) (K.faults sink.new)) }
 {
-    let number = u64::from(number);
     let left = COOKIES_LEFT + number / LEGEND_LINES * 200;
     write_place(sink, left, top + number % LEGEND_LINES * LEGEND_STEP)?;
     write_pieces(
@@ -176,7 +177,7 @@ fn write_cookie<K: Sink>(sink: &mut K, top: u64, number: u8, cookie: Cookie) -> 
     )
 }
 
-/// Writes the looks of the cookies by rising cookie, as many as there is room for.
+/// Writes the looks of the cookies by rising cookie, as many as the legend can show.
 fn write_cookies<K: Sink>(sink: &mut K, top: u64, stretches: &[Stretch]) -> Result<(), Failed>
     requires { top < 2 ^ 32 }
     ensures faultless { OnOk result (K.faults sink.new ≡ K.faults sink.old) }
