@@ -181,15 +181,15 @@ sibling_events =
 abbrev pub wake_form : Form
 wake_form = keyword (codes "wake") ∷ named_pid ∷ []
 
--- `advance` DELTA
+-- `advance` D
 abbrev pub advance_form : Form
 advance_form = keyword (codes "advance") ∷ number 1 1000000000 ∷ []
 
--- `fork` CALLER, and `thread` or `process`
+-- `fork` PID, and `thread` or `process`
 abbrev pub fork_form : Form
 fork_form = keyword (codes "fork") ∷ named_pid ∷ child ∷ []
 
--- `prctl` CALLER CMD TARGET SCOPE ADDR
+-- `prctl` PID CMD TARGET SCOPE ADDR
 abbrev pub prctl_form : Form
 prctl_form = keyword (codes "prctl") ∷ named_pid ∷ u32 ∷ i32 ∷ u32 ∷ u64 ∷ []
 
@@ -197,7 +197,7 @@ prctl_form = keyword (codes "prctl") ∷ named_pid ∷ u32 ∷ i32 ∷ u32 ∷ u
 abbrev pub setsched_form : Form
 setsched_form = keyword (codes "setsched") ∷ named_pid ∷ policy ∷ []
 
--- `offline` SIBLING or `online` SIBLING, in a core with this number of siblings
+-- `offline` I or `online` I, in a core with this number of siblings
 abbrev pub cpu_form : Word → ℕ → Form
 cpu_form name siblings = keyword name ∷ sibling siblings ∷ []
 
