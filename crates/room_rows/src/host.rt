@@ -32,14 +32,27 @@ const HEAD: &str = concat!(
     "step c0 wake 30\nstep s0 turn\nstep s0 block\n",
 );
 
-/// The lines of these steps.
-const FIRST_LINES: &str = concat!(
-    "c0 prctl 10 1 0 1 0: 0\nc0 prctl 20 1 0 1 0: 0\n",
-    "c0 wake 10: Woken 0\nc0 wake 11: Woken 1\nc0 wake 12: Woken 2\nc0 wake 13: Woken 3\n",
-    "c0 wake 20: Woken 0\nc0 wake 21: Woken 1\nc0 wake 22: Woken 2\nc0 wake 23: Woken 3\n",
-    "c0 wake 30: Woken 0\ns0 turn: Plain 30 core 0 forced 0\n",
+/// The caller's lines up to the end of the first round, in whatever order the siblings come between.
+const CALLS: [&str; 12] = [
+    "c0 prctl 10 1 0 1 0: 0\n",
+    "c0 prctl 20 1 0 1 0: 0\n",
+    "c0 wake 10: Woken 0\n",
+    "c0 wake 11: Woken 1\n",
+    "c0 wake 12: Woken 2\n",
+    "c0 wake 13: Woken 3\n",
+    "c0 wake 20: Woken 0\n",
+    "c0 wake 21: Woken 1\n",
+    "c0 wake 22: Woken 2\n",
+    "c0 wake 23: Woken 3\n",
+    "c0 wake 30: Woken 0\n",
+    "c0 advance 1000000: Now 1000000\n",
+];
+
+/// The first lines of sibling 0 behind the wakes.
+const FIRST_TURNS: [&str; 2] = [
+    "s0 turn: Plain 30 core 0 forced 0\n",
     "s0 block: Slept 30 Selected 10 core 1 forced 0\n",
-);
+];
 
 /// A millisecond, in which each sibling ticks and takes its turn.
 const ROUND: &str = concat!(
@@ -58,19 +71,11 @@ fn text_of_host(alloc: Global) -> Result<Vec<u8>, AllocError> {
     Ok(text)
 }
 
-/// Expects the first lines of an output, and the first of its report.
-fn expect_host(rt: &impl Abort, sink: &MemSink) {
+/// Expects the caller's first lines, these of sibling 0, and the first of the report.
+fn expect_host(rt: &impl Abort, sink: &MemSink, turns: &[&str]) {
     let (entries, report) = parts_of(rt, sink);
-    assert!(rt; entries.starts_with(FIRST_LINES) && report.starts_with("clock 220000000\n"));
-}
-
-/// The first caller's first lines.
-const PRCTLS: [&str; 2] = ["c0 prctl 10 1 0 1 0: 0\n", "c0 prctl 20 1 0 1 0: 0\n"];
-
-/// Expects the first two lines of the first caller, and the first of the report.
-fn expect_race(rt: &impl Abort, sink: &MemSink) {
-    let (entries, report) = parts_of(rt, sink);
-    expect_lines(rt, entries, "c0 ", &PRCTLS);
+    expect_lines(rt, entries, "c0 ", &CALLS);
+    expect_lines(rt, entries, "s0 ", turns);
     assert!(rt; report.starts_with("clock 220000000\n"));
 }
 
@@ -103,7 +108,7 @@ fn sink_after<R: Threads + Wait + AllocGlobal + Sync + Abort>(rt: &R, word: &str
 #[test]
 fn host_of_two_guests(rt: HostRuntime) {
     let sink = sink_after(&rt, "replay");
-    expect_host(&rt, &sink);
+    expect_host(&rt, &sink, &FIRST_TURNS);
 }
 
 // Again and again, since two races may differ.
@@ -111,6 +116,6 @@ fn host_of_two_guests(rt: HostRuntime) {
 fn race_of_two_guests(rt: HostRuntime) {
     for _ in 0..2 {
         let sink = sink_after(&rt, "race");
-        expect_race(&rt, &sink);
+        expect_host(&rt, &sink, &[]);
     }
 }

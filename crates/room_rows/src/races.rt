@@ -6,6 +6,7 @@ ghost use Rattle.std.specs.Prelude.{◌≡◌};
 
 use crate::commands::{run_over_trees, sink_of, source_of, words_of};
 use crate::examples::opened;
+use crate::passes::expect_lines;
 use cs_outside::{Gate, NoGate, PairGuard};
 use cs_types::{Actor, Entry, Event, Reply, Room};
 use memory_outside::MemSink;
@@ -79,12 +80,21 @@ fn race_of_one_caller(rt: HostRuntime) {
     assert!(rt; parts_of(&rt, &sink) == (ENTRIES, REPORT));
 }
 
-// Two callers make as many bytes of entries as one that makes the same steps.
+/// How the lines of each actor of `TWO_CALLERS` begin, and these lines in their order.
+const ORDERS: [(&'static str, &'static [&'static str]); 3] = [
+    ("c0 ", &["c0 wake 1: Woken 0\n", "c0 wake 9: NoTask\n"]),
+    ("c1 ", &["c1 wake 2: Woken 0\n"]),
+    ("end ", &["end resched 0: Plain 1 core 0 forced 0\n"]),
+];
+
 #[test]
 fn race_of_two_callers(rt: HostRuntime) {
     let sink = raced(&rt, TWO_CALLERS, &NoGate);
     let (entries, report) = parts_of(&rt, &sink);
-    assert!(rt; entries.len() == ENTRIES.len() && report == REPORT);
+    for (actor, lines) in &ORDERS {
+        assert!(rt; expect_lines(&rt, entries, actor, lines).is_none());
+    }
+    assert!(rt; entries.lines().count() == 4 && report == REPORT);
 }
 
 /// Two siblings with nothing to run, and the steps of the first before those of the second.
