@@ -1,9 +1,8 @@
-//! The commands: the stored run, words and texts that are refused, the limit of the input on both
-//! sides, and a device that fails at each of its calls.
+//! The commands: the stored run, words that are refused, the limit of the input on both sides, and a
+//! device that fails at each of its calls.
 
 ghost use Rattle.std.specs.Prelude.{◌≡◌, ◌<◌, ◌≤◌, [], All, vec_len};
 
-use crate::scenarios::{STEP, text_of_lines};
 use command_words::{Command, command_of, drill_seed, is_replay};
 use core_state::CoreState;
 use cs_outside::{Gate, Guard, NoGate, PairGuard};
@@ -344,78 +343,6 @@ pub fn expect_text<R: Threads + Wait + AllocGlobal + Sync + Abort>(
         wanted,
         output,
     );
-}
-
-/// Texts that are no scenario's, each with its first bad line and what is wrong with it: an empty one, and others
-/// that break one rule each. A version, a number of siblings twice, the limit of tasks, distinct pids, an earlier
-/// leader, and what stands at the end.
-const OTHER_TEXTS: [(u32, BadKind, &str); 9] = [
-    (1, BadKind::Cut, ""),
-    (
-        4,
-        BadKind::Cut,
-        "coresched 1\nsiblings 2\nlimits 4 4 65536\nend",
-    ),
-    (
-        1,
-        BadKind::Shape,
-        "coresched 3\nsiblings 2\nlimits 4 4 65536\nend\n",
-    ),
-    (
-        2,
-        BadKind::Number,
-        "coresched 1\nsiblings 9\nlimits 4 4 65536\nend\n",
-    ),
-    (
-        2,
-        BadKind::Number,
-        "coresched 1\nsiblings 02\nlimits 4 4 65536\nend\n",
-    ),
-    (
-        5,
-        BadKind::Full,
-        "coresched 1\nsiblings 2\nlimits 1 8 65536
-task 1 1 1 0 fifo:10 1000 1000 1000 1000 1000 1000 0 1 1
-task 2 2 2 0 fifo:10 1000 1000 1000 1000 1000 1000 0 1 1
-end\n",
-    ),
-    (
-        5,
-        BadKind::Twice,
-        "coresched 1\nsiblings 2\nlimits 8 8 65536
-task 1 1 1 0 fifo:10 1000 1000 1000 1000 1000 1000 0 1 1
-task 1 1 1 0 fifo:10 1000 1000 1000 1000 1000 1000 0 1 1
-end\n",
-    ),
-    (
-        4,
-        BadKind::Leader,
-        "coresched 1\nsiblings 2\nlimits 8 8 65536
-task 2 1 1 0 fifo:10 1000 1000 1000 1000 1000 1000 0 1 1
-end\n",
-    ),
-    (
-        5,
-        BadKind::After,
-        "coresched 1\nsiblings 2\nlimits 4 4 65536\nend\n\n",
-    ),
-];
-
-#[test]
-fn other_texts(rt: HostRuntime) {
-    for (line, kind, text) in &OTHER_TEXTS {
-        let wanted = Status::BadScenario {
-            line: *line,
-            kind: *kind,
-        };
-        expect_text(&rt, text.as_bytes(), wanted, b"");
-    }
-    let text = text_of_lines(&rt, STEP, 100_001);
-    let wanted = Status::BadScenario {
-        line: 100_005,
-        kind: BadKind::Full,
-    };
-    expect_text(&rt, &text, wanted, b"");
 }
 
 /// Expects that an input of this many bytes, which is no scenario, ends so.

@@ -10,25 +10,20 @@ use cs_outside::{Guard, NullGuard, PairGuard, TeachFault};
 use cs_types::GuardPlace;
 use memory_outside::{ListGuard, MemSink, MemSource};
 use ptrace_check::{Guards, LoadAnswer, TeachAnswer, UnloadAnswer};
+use scenario_input::guards;
 use scenario_runner::{GuardKind, Status, replay};
 use std::alloc::Global;
 use std::process::Abort;
 use std::sync::Arc;
 use std::sync::atomic::{AtomicU64, Ordering};
 
-/// Four guards that hold their pairs in place, as the program has them.
+/// The four guards of the program.
 pub fn four<R: AllocGlobal + Abort>(rt: &R) -> Vec<PairGuard>
     ensures four { vec_len result ≡ 4 }
     ensures untaught { All (λ guard. guard.pairs ≡ []) result.items }
     ensures unasked { All (λ guard. guard.asked ≡ 0) result.items }
 {
-    let guards = [
-        PairGuard::empty(),
-        PairGuard::empty(),
-        PairGuard::empty(),
-        PairGuard::empty(),
-    ];
-    Vec::from_array(rt.alloc(), guards).expect(rt, "room")
+    guards(rt).expect(rt, "room")
 }
 
 /// Expects that `replay` with these guards ends so over the text, and writes these parts.

@@ -71,10 +71,7 @@ fn three_tasks<R: AllocGlobal + Abort>(rt: &R) -> TaskTable
 
 /// The pid of a task, where there is one.
 fn pid_of(task: Option<&Task>) -> Option<Pid> {
-    match task {
-        Some(task) => Some(task.spec.pid),
-        None => None,
-    }
+    task.map(|task| task.spec.pid)
 }
 
 /// The pids of the next four tasks, as far as there are so many.

@@ -150,14 +150,6 @@ fn expect_each_class<L: Ledger, R: AllocGlobal + Abort>(rt: &R, steps: &mut Step
     drop(queue);
 }
 
-/// The pid of a task, where there is one.
-fn pid_of(task: Option<Queued>) -> Option<Pid> {
-    match task {
-        Some(task) => Some(task.pid),
-        None => None,
-    }
-}
-
 /// Expects that a queue of two tasks, which have cookie 7, tells the higher first, and none of another cookie.
 fn expect_told<L: Ledger, R: Abort>(
     rt: &R,
@@ -170,13 +162,24 @@ fn expect_told<L: Ledger, R: Abort>(
     requires high { IsRanked high.now }
 {
     let found = [
-        pid_of(queue.first_of(7, steps)),
-        pid_of(queue.next_of(high, steps)),
-        pid_of(queue.next_of(low, steps)),
-        pid_of(queue.first_of(6, steps)),
-        pid_of(queue.first_of(8, steps)),
+        queue.first_of(7, steps),
+        queue.next_of(high, steps),
+        queue.next_of(low, steps),
+        queue.first_of(6, steps),
+        queue.first_of(8, steps),
     ];
-    assert!(rt; found == [Some(2), Some(1), None, None, None]);
+    assert!(rt;
+        matches!(
+            found,
+            [
+                Some(Queued { pid: 2, .. }),
+                Some(Queued { pid: 1, .. }),
+                None,
+                None,
+                None,
+            ]
+        )
+    );
 }
 
 /// Expects of a run queue that it tells the tasks of a cookie, the higher first, until they are taken out.
@@ -188,7 +191,8 @@ fn expect_cookies<L: Ledger, R: AllocGlobal + Abort>(rt: &R, steps: &mut Steps<L
     queue.enqueue(low, steps);
     queue.enqueue(high, steps);
     expect_told(rt, &queue, &low, &high, steps);
-    assert!(rt; queue.dequeue(&high, steps) && pid_of(queue.first_of(7, steps)) == Some(1));
+    assert!(rt; queue.dequeue(&high, steps));
+    assert!(rt; matches!(queue.first_of(7, steps), Some(Queued { pid: 1, .. })));
     drop(queue);
 }
 

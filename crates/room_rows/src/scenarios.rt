@@ -1,14 +1,13 @@
 //! Texts of scenarios: one that is read, texts that are no scenario's, one for each rule of the grammar with
 //! its first bad line and kind, and the limit of steps on both sides.
 
-use crate::commands::joined;
+use crate::commands::{INPUT, expect_text, joined};
 use cs_types::{Scenario, TaskSpec};
+use scenario_runner::Status;
 use scenario_text::{BadKind, ReadFault, read};
-use std::alloc::Global;
 use std::process::Abort;
-
-const TEXT: &[u8] =
-    b"coresched 1\nsiblings 2\nlimits 8 8 65536\ntask 1 1 1 0 fifo:10 1000 1000 1000 1000 1000 1000 0 1 1\ntask 2 2 2 0 fifo:10 1000 1000 1000 1000 1000 1000 0 1 1\ntask 3 3 3 0 fifo:20 1000 1000 1000 1000 1000 1000 0 1 1\nstep c0 wake 1\nstep c0 wake 2\nstep s0 turn\nstep c0 wake 3\nstep s0 turn\nstep s0 block\nend\n";
+use std::sync::Wait;
+use std::thread::Threads;
 
 /// How many tasks and how many steps the scenario of a text has. The name says which text it is.
 fn counts_of<R: AllocGlobal + Abort>(rt: &R, text: &[u8], name: &str) -> (usize, usize) {
@@ -19,7 +18,7 @@ fn counts_of<R: AllocGlobal + Abort>(rt: &R, text: &[u8], name: &str) -> (usize,
 // What is written to the items of a list stays in it.
 #[test]
 fn reads_a_scenario(rt: HostRuntime) {
-    let mut scenario = read(rt.alloc(), TEXT).expect(&rt, "a scenario");
+    let mut scenario = read(rt.alloc(), INPUT.as_bytes()).expect(&rt, "a scenario");
     assert!(rt;
         matches!(
             &scenario,
@@ -50,7 +49,7 @@ const HEAD: &str =
 type Refused = (&'static str, u32, BadKind, &'static str);
 
 /// Texts that are no scenario's.
-const REFUSED_TEXTS: [Refused; 14] = [
+const REFUSED_TEXTS: [Refused; 15] = [
     ("some line", 1, BadKind::Cut, ""),
     ("a whole first line", 1, BadKind::Cut, "coresched 1"),
     (
@@ -82,6 +81,12 @@ const REFUSED_TEXTS: [Refused; 14] = [
         2,
         BadKind::Number,
         "coresched 1\nsiblings 9\nlimits 8 8 65536\nend\n",
+    ),
+    (
+        "no leading 0 of a number of siblings",
+        2,
+        BadKind::Number,
+        "coresched 1\nsiblings 02\nlimits 4 4 65536\nend\n",
     ),
     (
         "the third line",
@@ -694,12 +699,23 @@ fn reads_policies(rt: HostRuntime) {
     }
 }
 
-/// Whether the text is refused, with this first bad line and what is wrong with it.
-fn is_refused(alloc: Global, text: &[u8], line: u32, kind: BadKind) -> bool {
-    matches!(
-        read(alloc, text),
-        Err(ReadFault::Bad { line: found, kind: what }) if found == line && what == kind
-    )
+/// Expects that the text, which breaks this rule, is refused with this first bad line and what is wrong with it.
+/// The command ends so too, and writes nothing.
+fn expect_bad<R: Threads + Wait + AllocGlobal + Sync + Abort>(
+    rt: &R,
+    rule: &str,
+    text: &[u8],
+    line: u32,
+    kind: BadKind,
+) {
+    assert!(rt;
+        matches!(
+            read(rt.alloc(), text),
+            Err(ReadFault::Bad { line: found, kind: what }) if found == line && what == kind
+        ),
+        "{rule}"
+    );
+    expect_text(rt, text, Status::BadScenario { line, kind }, b"");
 }
 
 /// The head, and behind it this text.
@@ -708,10 +724,14 @@ fn text_of<R: AllocGlobal + Abort>(rt: &R, head: &str, rest: &str) -> Vec<u8> {
 }
 
 /// Expects that each of these texts is refused behind the head.
-fn expect_refused<R: AllocGlobal + Abort>(rt: &R, head: &str, texts: &[Refused]) {
+fn expect_refused<R: Threads + Wait + AllocGlobal + Sync + Abort>(
+    rt: &R,
+    head: &str,
+    texts: &[Refused],
+) {
     for (rule, line, kind, rest) in texts {
         let text = text_of(rt, head, rest);
-        assert!(rt; is_refused(rt.alloc(), &text, *line, *kind), "{rule}");
+        expect_bad(rt, rule, &text, *line, *kind);
     }
 }
 
@@ -724,13 +744,13 @@ fn refuses_other_texts(rt: HostRuntime) {
 }
 
 /// A text of a head, one task and this line so many times.
-pub fn text_of_lines<R: AllocGlobal + Abort>(rt: &R, line: &str, count: usize) -> Vec<u8> {
+fn text_of_lines<R: AllocGlobal + Abort>(rt: &R, line: &str, count: usize) -> Vec<u8> {
     let lines = line.repeat(rt.alloc(), count).expect(rt, "room");
     joined(rt.alloc(), &[HEAD, &lines, "end\n"]).expect(rt, "room")
 }
 
 /// A step.
-pub const STEP: &str = "step s0 turn\n";
+const STEP: &str = "step s0 turn\n";
 
 /// A teach line.
 const TEACH: &str = "teach 15 0 65535\n";
@@ -757,6 +777,6 @@ fn reads_64_teaches(rt: HostRuntime) {
 fn refuses_a_line_too_many(rt: HostRuntime) {
     for (line, count, last) in [(STEP, 100_001, 100_005), (TEACH, 65, 69)] {
         let text = text_of_lines(&rt, line, count);
-        assert!(rt; is_refused(rt.alloc(), &text, last, BadKind::Full));
+        expect_bad(&rt, "the limit of lines", &text, last, BadKind::Full);
     }
 }

@@ -2,10 +2,8 @@
 //! crate of theirs.
 
 ghost use Rattle.std.specs.Prelude.{◌≡◌, []};
-ghost use Rattle.std.specs.List.{list_any};
-ghost use Rattle.cs_outside.specs.Guard.{is_pair};
 
-use cs_outside::{Guard, TeachFault};
+use cs_outside::{Guard, TeachFault, lists};
 use std::alloc::Global;
 use std::sync::Arc;
 use std::sync::atomic::{AtomicU64, Ordering};
@@ -26,13 +24,6 @@ impl Drop for LongGuard {
         } = self;
         drops.fetch_add(1, Ordering::SeqCst);
     }
-}
-
-/// Whether the pair of real user ids is one of these.
-fn lists(pairs: &[(u32, u32)], from: u32, to: u32) -> bool
-    ensures { result ≡ list_any (is_pair (from, to)) pairs.now }
-{
-    pairs.iter().any(|pair| from == pair.0 && to == pair.1)
 }
 
 impl LongGuard {
