@@ -1,7 +1,7 @@
 //! The lines of entries: whole, in one piece, and up to a fault.
 
 use crate::commands::{only, sink_of};
-use cs_types::{Actor, Ask, Entry, Errno, Event, Kind, Pick, Reply};
+use cs_types::{Actor, Ask, Entry, Errno, Event, Kind, Pick, Policy, Reply};
 use memory_outside::MemSink;
 use room_report::entry_text;
 use scenario_text::Line;
@@ -53,6 +53,16 @@ macro_rules! fork {
     };
 }
 
+/// This task is given this policy.
+macro_rules! setsched {
+    ($pid:literal, $policy:expr) => {
+        Event::SetSched {
+            pid: $pid,
+            policy: $policy,
+        }
+    };
+}
+
 macro_rules! pick {
     ($kind:ident, $run:literal, $core:literal, $forced:literal) => {
         Pick {
@@ -84,9 +94,9 @@ macro_rules! ended {
     };
 }
 
-/// Entries, each with its line: of wakes, turns, schedules, blocks, exits, forks, calls, calls that tell a
-/// value, each error, and guards.
-const LINES: [(Entry, &str); 34] = [
+/// Entries, each with its line: of wakes, turns, steals, schedules, blocks, exits, ticks, advances, forks, calls,
+/// calls that tell a value, policies, siblings that leave and come back, each error, and guards.
+const LINES: [(Entry, &str); 48] = [
     (
         caller!(0, Event::Wake(1), Reply::Woken(0)),
         "c0 wake 1: Woken 0\n",
@@ -124,6 +134,22 @@ const LINES: [(Entry, &str); 34] = [
     ),
     (sibling!(2, Turn, Reply::Nothing), "s2 turn: Nothing\n"),
     (
+        sibling!(
+            7,
+            Turn,
+            Reply::Stole {
+                pid: 4294967295,
+                from: 255
+            }
+        ),
+        "s7 turn: Stole 4294967295 from 255\n",
+    ),
+    (
+        sibling!(0, Turn, Reply::Missed(255)),
+        "s0 turn: Missed 255\n",
+    ),
+    (sibling!(1, Turn, Reply::Offline), "s1 turn: Offline\n"),
+    (
         sibling!(7, Resched, Reply::Picked(pick!(Selected, 0, 2, 7))),
         "s7 resched: Selected idle core 2 forced 7\n",
     ),
@@ -156,6 +182,22 @@ const LINES: [(Entry, &str); 34] = [
         "s1 exit: HasThreads\n",
     ),
     (sibling!(7, Exit, Reply::Idle), "s7 exit: Idle\n"),
+    (
+        sibling!(0, Tick, Reply::Ticked(true)),
+        "s0 tick: Ticked yes\n",
+    ),
+    (
+        sibling!(7, Tick, Reply::Ticked(false)),
+        "s7 tick: Ticked no\n",
+    ),
+    (
+        caller!(
+            0,
+            Event::Advance(1000000000),
+            Reply::Now(18446744073709551615)
+        ),
+        "c0 advance 1000000000: Now 18446744073709551615\n",
+    ),
     (
         caller!(0, fork!(1, true), Reply::Child(2)),
         "c0 fork 1 thread: Child 2\n",
@@ -197,6 +239,42 @@ const LINES: [(Entry, &str); 34] = [
             Reply::Value(18446744073709551615)
         ),
         "c255 prctl 4294967295 4294967295 -2147483648 4294967295 18446744073709551615: 0 value 18446744073709551615\n",
+    ),
+    (
+        caller!(0, setsched!(1, Policy::Stop), Reply::Set),
+        "c0 setsched 1 stop: Set\n",
+    ),
+    (
+        caller!(
+            0,
+            setsched!(1, Policy::Deadline(18446744073709551615)),
+            Reply::Set
+        ),
+        "c0 setsched 1 dl:18446744073709551615: Set\n",
+    ),
+    (
+        caller!(0, setsched!(1, Policy::Fifo(99)), Reply::Set),
+        "c0 setsched 1 fifo:99: Set\n",
+    ),
+    (
+        caller!(0, setsched!(1, Policy::Rr(1)), Reply::Set),
+        "c0 setsched 1 rr:1: Set\n",
+    ),
+    (
+        caller!(0, setsched!(999999, Policy::Fair(-20)), Reply::NoTask),
+        "c0 setsched 999999 fair:-20: NoTask\n",
+    ),
+    (
+        caller!(0, Event::Offline(7), Reply::Done),
+        "c0 offline 7: Done\n",
+    ),
+    (
+        caller!(0, Event::Online(0), Reply::Already),
+        "c0 online 0: Already\n",
+    ),
+    (
+        caller!(0, Event::Offline(0), Reply::Refused(Errno::Ebusy)),
+        "c0 offline 0: EBUSY\n",
     ),
     (
         caller!(0, prctl!(1, 2, 3, 0, 0), Reply::Refused(Errno::Eperm)),
