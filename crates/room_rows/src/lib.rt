@@ -1,7 +1,7 @@
-//! The tests of the product, over public calls alone, with values typed by hand: what no clause says.
-//! That is that calls succeed where there is memory, worked examples from their text to their output,
-//! the texts of lines, and faults in mid-stream. They stand together, since a crate with tests is
-//! proved twice.
+//! The tests of the product, over public calls alone, with values typed by hand, those of drills as
+//! `checks/reference/drill.py` draws them: what no clause says. That is that calls succeed where there is
+//! memory, worked examples from their text to their output, the texts of lines, and faults in mid-stream.
+//! They stand together, since a crate with tests is proved twice.
 #![tactic(auto)]
 
 /// The report of these lines, which stand between its first and its last.
