@@ -30,6 +30,7 @@ use Rattle.task_times.specs.declared.doing.TaskDoing.TheVariants.{Runs, Waits, S
 use Rattle.task_times.specs.declared.times.TaskTimes.{TaskTimes}
 use Rattle.task_times.specs.declared.times.CookieTimes.{CookieTimes}
 use Rattle.task_times.specs.Living.{lives, doing_of, doing_at, runs, waits, sleeps, holders, doers, leaver, leavers_of, left_with}
+use Rattle.task_times.specs.DoingTimes.{doing_times}
 use Rattle.task_times.specs.TaskSums.{does_so, task_times, lived, time_by, cookie_times, had, TaskSums, pids_for, cookies_for, rows_in, parts_in, sums_so_far, with_span, with_doers, counted_for}
 use Rattle.task_times.proofs.Bounds.{bound-fold_of, pids_below, running_pid, below_running}
 use Rattle.task_times.proofs.Leaving.{IsLeaving, leavers_of-push, leavers_of-still, leavers_of-drained, left_with-push}
@@ -40,9 +41,7 @@ use Rattle.task_times.proofs.Walked.{doers_in, few_kept}
 pub task_times-push : (spans : List Span) (room : RoomState) (time cookie pid : ℕ) →
     task_times 0 cookie (spans ++ one_span room time) pid ≡ with_span (doing_at room pid) time (task_times 0 cookie spans pid)
 task_times-push spans room time cookie pid = λ i. record {
-  ran = time_in-push (does_so runs pid) spans room time i;
-  waited = time_in-push (does_so waits pid) spans room time i;
-  slept = time_in-push (does_so sleeps pid) spans room time i;
+  by_doing = doing_times (λ does. time_in-push (does_so does pid) spans room time i);
   charged = 0;
   cookie = cookie;
 }
@@ -53,12 +52,8 @@ time_by-push number spans room time = sum_by_push (λ (span : Span). span.time *
 
 pub cookie_times-push : (spans : List Span) (room : RoomState) (time cookie : ℕ) →
     cookie_times 0 (spans ++ one_span room time) cookie ≡ with_doers room cookie time (cookie_times 0 spans cookie)
-cookie_times-push spans room time cookie = λ i. record {
-  ran = time_by-push (λ r. length (doers runs cookie r)) spans room time i;
-  waited = time_by-push (λ r. length (doers waits cookie r)) spans room time i;
-  slept = time_by-push (λ r. length (doers sleeps cookie r)) spans room time i;
-  charged = 0;
-}
+cookie_times-push spans room time cookie =
+    λ i. record { by_doing = doing_times (λ does. time_by-push (λ r. length (doers does cookie r)) spans room time i); charged = 0 }
 
 -- a list of rows goes on by what each row does
 pub rows-push : {X : Type 0} (f g : ℕ → X) (more : ℕ → X → X) → ((k : ℕ) → g k ≡ more k (f k)) → (n : ℕ) (old new : List X) (none : X) → old ≡ map f (range_with_len 0 n) →

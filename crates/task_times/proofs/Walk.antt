@@ -16,8 +16,9 @@ use Rattle.task_times.specs.declared.doing.TaskDoing.{TaskDoing}
 use Rattle.task_times.specs.declared.times.TaskTimes.{TaskTimes}
 use Rattle.task_times.specs.declared.times.CookieTimes.{CookieTimes}
 use Rattle.task_times.specs.Living.{doing_of, doing_at}
-use Rattle.task_times.specs.TaskSums.{lived, had, part, with_span, with_one, with_doers}
-use Rattle.task_times.proofs.Walked.{doing_in, with_doers_in, above_misses, tasks_step, cookies_step, room_for_task, room_for_cookie}
+use Rattle.task_times.specs.DoingTimes.{part}
+use Rattle.task_times.specs.TaskSums.{lived, had, with_span, with_one, with_doers}
+use Rattle.task_times.proofs.Walked.{doing_in, with_doers_in, above_misses, tasks_step, cookies_step, part-le, room_for_task, room_for_cookie}
 
 -- the tasks above a pid
 abbrev pub above : RoomState → ℕ → List Task
@@ -73,21 +74,22 @@ does_it room pid view doing next is =
 
 pub next_has_room : (room : RoomState) (pid : ℕ) (view : TaskView) → AreRising room → Some view ≡ next_view room pid → (time most : ℕ) (row old : TaskTimes) →
     with_span (doing_in room (above room pid) view.pid) time row ≡ with_span (doing_at room view.pid) time old →
-    lived old + time ≤ most → lived row + time ≤ most
-next_has_room room pid view rises shown time most row old is fits =
+    lived old + time ≤ most → (doing : TaskDoing) → part doing row.by_doing + time ≤ most
+next_has_room room pid view rises shown time most row old is fits doing =
     let next = next_of room pid view rises shown in
     let own : view.pid ≡ next.task.spec.pid = ap (λ (v : TaskView). v.pid) next.shown in
-    room_for_task room next.task (above room next.task.spec.pid) time most row old
-    ((λ i. with_span (doing_in room (sym next.first i) (sym own i)) time row) ∙ is ∙ (λ i. with_span (doing_at room (own i)) time old)) fits
+    let all = room_for_task room next.task (above room next.task.spec.pid) time most row old
+    ((λ i. with_span (doing_in room (sym next.first i) (sym own i)) time row) ∙ is ∙ (λ i. with_span (doing_at room (own i)) time old)) fits in
+    omega (arith, part-le doing row, all)
 
 pub next_part_fits : (room : RoomState) (pid : ℕ) (view : TaskView) (doing : TaskDoing) → AreRising room → Some view ≡ next_view room pid → Some doing ≡ doing_at room view.pid →
     (time most : ℕ) (row old : CookieTimes) →
     with_doers_in room (above room pid) view.cookie time row ≡ with_doers room view.cookie time old →
-    had old + time * length room.tasks ≤ most → part doing row + time ≤ most
+    had old + time * length room.tasks ≤ most → part doing row.by_doing + time ≤ most
 next_part_fits room pid view doing rises shown does time most row old is fits =
     let next = next_of room pid view rises shown in
     let own : view.cookie ≡ next.task.cookie = ap (λ (v : TaskView). v.cookie) next.shown in
-    subst (λ (d : TaskDoing). part d row + time ≤ most) (sym (does_it room pid view doing next does))
+    subst (λ (d : TaskDoing). part d row.by_doing + time ≤ most) (sym (does_it room pid view doing next does))
     (room_for_cookie room next.task (above room next.task.spec.pid) time most row old
     ((λ i. with_doers_in room (sym next.first i) (sym own i) time row) ∙ is ∙ (λ i. with_doers room (own i) time old)) fits)
 
@@ -145,5 +147,5 @@ rows_end room pid shown k time row = sym (ap (λ (left : List Task). with_span (
 pub parts_end : (room : RoomState) (pid : ℕ) → None ≡ next_view room pid → (k time : ℕ) (row : CookieTimes) → row ≡ with_doers_in room (above room pid) k time row
 parts_end room pid shown k time row =
     let still : (n : ℕ) → n ≡ n + time * 0 = λ n. omega arith in
-    (λ i. record { ran = still row.ran i; waited = still row.waited i; slept = still row.slept i; charged = row.charged })
+    (λ i. record row { by_doing = record { ran = still row.by_doing.ran i; waited = still row.by_doing.waited i; slept = still row.by_doing.slept i } })
     ∙ sym (ap (λ (left : List Task). with_doers_in room left k time row) (none_above room pid shown))

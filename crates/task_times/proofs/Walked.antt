@@ -14,7 +14,8 @@ use Rattle.task_times.specs.declared.doing.TaskDoing.TheVariants.{Runs, Waits, S
 use Rattle.task_times.specs.declared.times.TaskTimes.{TaskTimes}
 use Rattle.task_times.specs.declared.times.CookieTimes.{CookieTimes}
 use Rattle.task_times.specs.Living.{doing_of, doing_at, runs, waits, sleeps, doers}
-use Rattle.task_times.specs.TaskSums.{lived, had, part, with_span, with_one, with_doers}
+use Rattle.task_times.specs.DoingTimes.{part, with_each}
+use Rattle.task_times.specs.TaskSums.{lived, had, with_span, with_one, with_doers}
 
 -- what the one of these tasks does that has the pid
 abbrev pub doing_in : RoomState → List Task → ℕ → Option TaskDoing
@@ -25,13 +26,7 @@ abbrev pub doers_in : RoomState → List Task → (TaskDoing → Bool) → ℕ �
 doers_in room left does cookie = filter (λ task. (task.cookie == cookie) && does (doing_of room task)) left
 
 abbrev pub with_doers_in : RoomState → List Task → ℕ → ℕ → CookieTimes → CookieTimes
-with_doers_in room left cookie time times =
-    record {
-      ran = times.ran + time * length (doers_in room left runs cookie);
-      waited = times.waited + time * length (doers_in room left waits cookie);
-      slept = times.slept + time * length (doers_in room left sleeps cookie);
-      charged = times.charged;
-    }
+with_doers_in room left cookie time times = record times { by_doing = with_each (λ does. time * length (doers_in room left does cookie)) times.by_doing }
 
 -- ---- the task that is next
 
@@ -87,29 +82,31 @@ cookies_step room task left time rows k none few = go (task.cookie == k) refl wh
 
   go : (test : Bool) → (task.cookie == k) ≡ test →
       with_doers_in room left k time (get_or (set rows task.cookie own) k none)
-      ≡ record {
-        ran = (get_or rows k none).ran + time * kept runs test;
-        waited = (get_or rows k none).waited + time * kept waits test;
-        slept = (get_or rows k none).slept + time * kept sleeps test;
-        charged = (get_or rows k none).charged;
-      }
+      ≡ record (get_or rows k none) { by_doing = with_each (λ does. time * kept does test) (get_or rows k none).by_doing }
   go true is =
       let e : task.cookie ≡ k = eqb-true task.cookie k is in
       let row = get_or rows k none in
       let doing = doing_of room task in
       (λ i. with_doers_in room left k time (get_or (set rows task.cookie own) (sym e i) none))
       ∙ ap (with_doers_in room left k time) (get_or-set_same rows task.cookie own none few ∙ ap (λ (n : ℕ). with_one doing time (get_or rows n none)) e)
-      ∙ (λ i. record {
-        ran = one_more (runs doing) row.ran time task (doers_in room left runs k) i;
-        waited = one_more (waits doing) row.waited time task (doers_in room left waits k) i;
-        slept = one_more (sleeps doing) row.slept time task (doers_in room left sleeps k) i;
-        charged = row.charged;
+      ∙ (λ i. record row {
+        by_doing = record {
+          ran = one_more (runs doing) row.by_doing.ran time task (doers_in room left runs k) i;
+          waited = one_more (waits doing) row.by_doing.waited time task (doers_in room left waits k) i;
+          slept = one_more (sleeps doing) row.by_doing.slept time task (doers_in room left sleeps k) i;
+        };
       })
   go false is =
       ap (with_doers_in room left k time)
       (get_or-set_other rows task.cookie k own none (λ same. both_ways (task.cookie == k) is (eq-eqb task.cookie k (sym same))))
 
 -- ---- the sums fit
+
+-- what was done of one kind is no more than all
+pub part-le : (doing : TaskDoing) (times : TaskTimes) → part doing times.by_doing ≤ lived times
+part-le Runs times = omega arith
+part-le Waits times = omega arith
+part-le Sleeps times = omega arith
 
 lived-with_span : (doing : Option TaskDoing) (time : ℕ) (times : TaskTimes) → lived (with_span doing time times) ≤ lived times + time
 lived-with_span None time times = omega arith
@@ -154,9 +151,9 @@ room_for_more room task left does time own old most passes is fits =
 -- and the one of its cookie
 pub room_for_cookie : (room : RoomState) (task : Task) (left : List Task) (time most : ℕ) (row old : CookieTimes) →
     with_doers_in room (task ∷ left) task.cookie time row ≡ with_doers room task.cookie time old →
-    had old + time * length room.tasks ≤ most → part (doing_of room task) row + time ≤ most
+    had old + time * length room.tasks ≤ most → part (doing_of room task) row.by_doing + time ≤ most
 room_for_cookie room task left time most row old is fits = go (doing_of room task) refl where
-  go : (doing : TaskDoing) → doing_of room task ≡ doing → part doing row + time ≤ most
-  go Runs e = room_for_more room task left runs time row.ran old.ran most (ap runs e) (ap (λ (c : CookieTimes). c.ran) is) (omega (arith, fits))
-  go Waits e = room_for_more room task left waits time row.waited old.waited most (ap waits e) (ap (λ (c : CookieTimes). c.waited) is) (omega (arith, fits))
-  go Sleeps e = room_for_more room task left sleeps time row.slept old.slept most (ap sleeps e) (ap (λ (c : CookieTimes). c.slept) is) (omega (arith, fits))
+  go : (doing : TaskDoing) → doing_of room task ≡ doing → part doing row.by_doing + time ≤ most
+  go Runs e = room_for_more room task left runs time row.by_doing.ran old.by_doing.ran most (ap runs e) (ap (λ (c : CookieTimes). c.by_doing.ran) is) (omega (arith, fits))
+  go Waits e = room_for_more room task left waits time row.by_doing.waited old.by_doing.waited most (ap waits e) (ap (λ (c : CookieTimes). c.by_doing.waited) is) (omega (arith, fits))
+  go Sleeps e = room_for_more room task left sleeps time row.by_doing.slept old.by_doing.slept most (ap sleeps e) (ap (λ (c : CookieTimes). c.by_doing.slept) is) (omega (arith, fits))

@@ -1,5 +1,5 @@
 -- TaskSums: for how long each task and the tasks of each cookie did what, and what they were charged.
-use Rattle.std.specs.Prelude.{ℕ, ◌+◌, ◌*◌, ◌==◌, Bool, false, if◌then◌else◌, List, length, map, filter, sum_by, Option}
+use Rattle.std.specs.Prelude.{ℕ, ◌+◌, ◌*◌, ◌==◌, Bool, false, if◌then◌else◌, List, length, map, filter, sum_by, Option, Some}
 use Rattle.std.specs.List.{range_with_len}
 use Rattle.std.specs.Option.{option_map_or}
 use Rattle.cs_types.specs.declared.task.Task.{Task}
@@ -8,10 +8,10 @@ use Rattle.cs_types.specs.History.{History, fold_of}
 use Rattle.cs_types.specs.View.{forced_of}
 use Rattle.run_times.specs.Times.{Span, spans_of, time_in}
 use Rattle.task_times.specs.declared.doing.TaskDoing.{TaskDoing}
-use Rattle.task_times.specs.declared.doing.TaskDoing.TheVariants.{Runs, Waits, Sleeps}
 use Rattle.task_times.specs.declared.times.TaskTimes.{TaskTimes}
 use Rattle.task_times.specs.declared.times.CookieTimes.{CookieTimes}
-use Rattle.task_times.specs.Living.{doing_at, runs, waits, sleeps, doers, charged_in, leavers_of, left_with, cookie_at}
+use Rattle.task_times.specs.Living.{doing_at, doers, charged_in, leavers_of, left_with, cookie_at}
+use Rattle.task_times.specs.DoingTimes.{doing_times, all_times, with_time, with_each}
 
 -- ---- a task
 
@@ -23,16 +23,14 @@ does_so does pid room = option_map_or does (doing_at room pid) false
 abbrev pub task_times : ℕ → ℕ → List Span → ℕ → TaskTimes
 task_times charged cookie spans pid =
     record {
-      ran = time_in (does_so runs pid) spans;
-      waited = time_in (does_so waits pid) spans;
-      slept = time_in (does_so sleeps pid) spans;
+      by_doing = doing_times (λ does. time_in (does_so does pid) spans);
       charged = charged;
       cookie = cookie;
     }
 
 -- all that a task did
 abbrev pub lived : TaskTimes → ℕ
-lived times = times.ran + times.waited + times.slept
+lived times = all_times times.by_doing
 
 -- ---- the tasks of a cookie
 
@@ -47,12 +45,7 @@ time_of does cookie spans = time_by (λ room. length (doers does cookie room)) s
 -- the times of the tasks of a cookie in these spans, beside what was charged to it
 abbrev pub cookie_times : ℕ → List Span → ℕ → CookieTimes
 cookie_times charged spans cookie =
-    record {
-      ran = time_of runs cookie spans;
-      waited = time_of waits cookie spans;
-      slept = time_of sleeps cookie spans;
-      charged = charged;
-    }
+    record { by_doing = doing_times (λ does. time_of does cookie spans); charged = charged }
 
 -- what these tasks were charged, all together
 abbrev pub all_charged : List TaskTimes → ℕ
@@ -64,7 +57,7 @@ charged_to tasks cookie = all_charged (filter (λ times. times.cookie == cookie)
 
 -- all that the tasks of a cookie did
 abbrev pub had : CookieTimes → ℕ
-had times = times.ran + times.waited + times.slept
+had times = all_times times.by_doing
 
 -- ---- a run
 
@@ -119,40 +112,15 @@ sums_of entries opening history =
 
 -- the times of a task with one span more, by what it does in that
 abbrev pub with_span : Option TaskDoing → ℕ → TaskTimes → TaskTimes
-with_span doing time times =
-    record {
-      ran = if option_map_or runs doing false then times.ran + time else times.ran;
-      waited = if option_map_or waits doing false then times.waited + time else times.waited;
-      slept = if option_map_or sleeps doing false then times.slept + time else times.slept;
-      charged = times.charged;
-      cookie = times.cookie;
-    }
-
--- what the tasks of a cookie did of one kind
-abbrev pub part : TaskDoing → CookieTimes → ℕ
-part Runs times = times.ran
-part Waits times = times.waited
-part Sleeps times = times.slept
+with_span doing time times = record times { by_doing = with_time doing time times.by_doing }
 
 -- the times of a cookie with one span more of one task, by what that does in it
 abbrev pub with_one : TaskDoing → ℕ → CookieTimes → CookieTimes
-with_one doing time times =
-    record {
-      ran = if runs doing then times.ran + time else times.ran;
-      waited = if waits doing then times.waited + time else times.waited;
-      slept = if sleeps doing then times.slept + time else times.slept;
-      charged = times.charged;
-    }
+with_one doing time times = record times { by_doing = with_time (Some doing) time times.by_doing }
 
 -- the times of a cookie with one span more, by how many of its tasks do what in that
 abbrev pub with_doers : RoomState → ℕ → ℕ → CookieTimes → CookieTimes
-with_doers room cookie time times =
-    record {
-      ran = times.ran + time * length (doers runs cookie room);
-      waited = times.waited + time * length (doers waits cookie room);
-      slept = times.slept + time * length (doers sleeps cookie room);
-      charged = times.charged;
-    }
+with_doers room cookie time times = record times { by_doing = with_each (λ does. time * length (doers does cookie room)) times.by_doing }
 
 -- ---- what tasks are charged
 

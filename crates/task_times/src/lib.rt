@@ -3,9 +3,11 @@
 #![tactic(auto)]
 
 mod doing;
+mod doing_times;
 mod looks;
 mod sums;
 mod times;
 
+pub use doing_times::DoingTimes;
 pub use sums::RunTasks;
 pub use times::{CookieTimes, TaskTimes};

@@ -10,6 +10,7 @@ ghost use Rattle.cs_types.specs.Scenario.{IsEvent, IsPlayable};
 ghost use Rattle.cs_types.specs.History.{History, fold_of, AreEvents};
 ghost use Rattle.run_times.specs.Times as span;
 ghost use Rattle.task_times.specs.Living as living;
+ghost use Rattle.task_times.specs.DoingTimes as by_doing;
 ghost use Rattle.task_times.specs.TaskSums as sums;
 
 use crate::doing::TaskDoing;
@@ -55,15 +56,15 @@ fn add_to_one(
 )
     requires task { task.pid < length tasks.old }
     requires cookie { task.cookie < length cookies.old }
-    requires lived { (none : TaskTimes) → sums.lived (slice_index_or tasks.old task.pid none) + time ≤ u64.MAX }
-    requires part { (none : CookieTimes) → sums.part doing (slice_index_or cookies.old task.cookie none) + time ≤ u64.MAX }
+    requires lived { (none : TaskTimes) → by_doing.part doing (slice_index_or tasks.old task.pid none).by_doing + time ≤ u64.MAX }
+    requires part { (none : CookieTimes) → by_doing.part doing (slice_index_or cookies.old task.cookie none).by_doing + time ≤ u64.MAX }
     ensures tasks { (none : TaskTimes) →
         tasks.new ≡ slice_set tasks.old task.pid (sums.with_span (Some doing) time (slice_index_or tasks.old task.pid none)) }
     ensures cookies { (none : CookieTimes) →
         cookies.new ≡ slice_set cookies.old task.cookie (sums.with_one doing time (slice_index_or cookies.old task.cookie none)) }
 {
-    tasks[task.pid as usize].add(doing, time);
-    cookies[task.cookie as usize].add(doing, time);
+    tasks[task.pid as usize].by_doing.add(doing, time);
+    cookies[task.cookie as usize].by_doing.add(doing, time);
 }
 
 /// Adds the time of an advance to each living task and to its cookie, by what it does in the room before it.

@@ -1,20 +1,16 @@
 //! The times of one task, and of the tasks of one cookie.
 
-ghost use Rattle.std.specs.Prelude.{◌≡◌, ◌+◌, ◌^◌, ◌<◌, ◌≤◌, ◌||◌, [], Some, nat_lt};
-ghost use Rattle.task_times.specs.TaskSums.{task_times, cookie_times, lived, had, part, counted_for, with_one, with_span, with_charge, charged_more};
+ghost use Rattle.std.specs.Prelude.{◌≡◌, ◌+◌, ◌^◌, ◌<◌, ◌≤◌, ◌||◌, [], nat_lt};
+ghost use Rattle.task_times.specs.TaskSums.{task_times, cookie_times, lived, had, counted_for, with_charge, charged_more};
 
-use crate::doing::TaskDoing;
+use crate::doing_times::DoingTimes;
 use cs_types::Cookie;
 
 /// For how long a task did what, in ns. What it ran, waited and slept add up to the time in which it lived.
 #[derive(Clone, Copy)]
 pub struct TaskTimes {
-    /// A sibling ran it.
-    pub ran: u64,
-    /// It was queued, and no sibling ran it.
-    pub waited: u64,
-    /// It was not queued.
-    pub slept: u64,
+    /// For how long it ran, waited and slept.
+    pub by_doing: DoingTimes,
     /// What it was charged for forced idle. 0 before the end of a run is told.
     pub charged: u64,
     /// The cookie for which that counts: the one that it has at the end, or had when it ended, 0 for none. Of a task
@@ -27,12 +23,8 @@ pub struct TaskTimes {
 /// for the last that it had.
 #[derive(Clone, Copy)]
 pub struct CookieTimes {
-    /// Siblings ran them.
-    pub ran: u64,
-    /// They were queued, and no sibling ran them.
-    pub waited: u64,
-    /// They were not queued.
-    pub slept: u64,
+    /// For how long they ran, waited and slept.
+    pub by_doing: DoingTimes,
     /// What the tasks were charged for forced idle whose last cookie it is. 0 before the end of a run is told.
     pub charged: u128,
 }
@@ -43,23 +35,9 @@ impl TaskTimes {
         ensures { (pid : _) → result ≡ task_times 0 0 [] pid }
     {
         TaskTimes {
-            ran: 0,
-            waited: 0,
-            slept: 0,
+            by_doing: DoingTimes::none(),
             charged: 0,
             cookie: 0,
-        }
-    }
-
-    /// Adds the time of an advance, by what the task did before it.
-    pub(crate) fn add(&mut self, doing: TaskDoing, time: u64)
-        requires { lived self.old + time ≤ u64.MAX }
-        ensures { self.new ≡ with_span (Some doing) time self.old }
-    {
-        match doing {
-            TaskDoing::Runs => self.ran += time,
-            TaskDoing::Waits => self.waited += time,
-            TaskDoing::Sleeps => self.slept += time,
         }
     }
 
@@ -91,7 +69,7 @@ impl TaskTimes {
     pub fn is_shown(&self) -> bool
         ensures { result ≡ (nat_lt 0 (lived self.now) || nat_lt 0 self.now.charged) }
     {
-        self.ran > 0 || self.waited > 0 || self.slept > 0 || self.charged > 0
+        self.by_doing.is_some() || self.charged > 0
     }
 }
 
@@ -101,22 +79,8 @@ impl CookieTimes {
         ensures { (cookie : _) → result ≡ cookie_times 0 [] cookie }
     {
         CookieTimes {
-            ran: 0,
-            waited: 0,
-            slept: 0,
+            by_doing: DoingTimes::none(),
             charged: 0,
-        }
-    }
-
-    /// Adds the time of an advance for one task, by what it did before it.
-    pub(crate) fn add(&mut self, doing: TaskDoing, time: u64)
-        requires { part doing self.old + time ≤ u64.MAX }
-        ensures { self.new ≡ with_one doing time self.old }
-    {
-        match doing {
-            TaskDoing::Runs => self.ran += time,
-            TaskDoing::Waits => self.waited += time,
-            TaskDoing::Sleeps => self.slept += time,
         }
     }
 
@@ -133,6 +97,6 @@ impl CookieTimes {
     pub fn is_shown(&self) -> bool
         ensures { result ≡ (nat_lt 0 (had self.now) || nat_lt 0 self.now.charged) }
     {
-        self.ran > 0 || self.waited > 0 || self.slept > 0 || self.charged > 0
+        self.by_doing.is_some() || self.charged > 0
     }
 }

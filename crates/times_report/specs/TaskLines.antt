@@ -13,15 +13,15 @@ use Rattle.scenario_text.specs.Text.{line}
 -- ran it, and it was not queued; what it was charged for forced idle; and the cookie for which that counts, 0 for none
 abbrev pub task_words : ℕ → TaskTimes → List Word
 task_words pid times =
-    codes "task" ∷ decimal pid ∷ codes "ran" ∷ decimal times.ran ∷ codes "waited" ∷ decimal times.waited
-    ∷ codes "slept" ∷ decimal times.slept ∷ codes "charged" ∷ decimal times.charged ∷ codes "cookie" ∷ decimal times.cookie ∷ []
+    codes "task" ∷ decimal pid ∷ codes "ran" ∷ decimal times.by_doing.ran ∷ codes "waited" ∷ decimal times.by_doing.waited
+    ∷ codes "slept" ∷ decimal times.by_doing.slept ∷ codes "charged" ∷ decimal times.charged ∷ codes "cookie" ∷ decimal times.cookie ∷ []
 
 -- `cookie` C `ran` T `waited` T `slept` T `charged` T: the same of the tasks that had the cookie, 0 for none, added over these
 -- tasks; and what the tasks were charged that count for it
 abbrev pub cookie_words : ℕ → CookieTimes → List Word
 cookie_words cookie times =
-    codes "cookie" ∷ decimal cookie ∷ codes "ran" ∷ decimal times.ran ∷ codes "waited" ∷ decimal times.waited
-    ∷ codes "slept" ∷ decimal times.slept ∷ codes "charged" ∷ decimal times.charged ∷ []
+    codes "cookie" ∷ decimal cookie ∷ codes "ran" ∷ decimal times.by_doing.ran ∷ codes "waited" ∷ decimal times.by_doing.waited
+    ∷ codes "slept" ∷ decimal times.by_doing.slept ∷ codes "charged" ∷ decimal times.charged ∷ []
 
 -- ---- the lines
 

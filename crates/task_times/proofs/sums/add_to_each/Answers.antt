@@ -40,7 +40,7 @@ add_to_one-requires-clause-lived g c = λ none.
     let history = g.R.Room.history c.args.room.now in
     let row = next_row (fold_of opening history) _ _ c.loop-task.pid c.in-Some.task c.requires.rows c.in-Some.ensures.view in
     next_has_room (fold_of opening history) c.loop-task.pid c.in-Some.task (rises_of opening history c.requires.playable) c.in-Some.ensures.view
-    c.args.time _ _ _ (c.loop-task.invariant.tasks c.in-Some.task.pid none row.0) (c.requires.lived c.in-Some.task.pid none row.0)
+    c.args.time _ _ _ (c.loop-task.invariant.tasks c.in-Some.task.pid none row.0) (c.requires.lived c.in-Some.task.pid none row.0) _
 
 pub add_to_one-requires-clause-part : goal.add_to_one-requires-clause-part
 add_to_one-requires-clause-part g c = λ none.

@@ -1,14 +1,19 @@
 use Rattle.std.proofs.Common.{◌<◌, ◌-◌, ◌+◌, length, set, get_or, ap, ◌∙◌, arith}
 use Rattle.std.proofs.lemmas.List.{get_or_default, take_all}
 use Rattle.task_times.specs.declared.times.TaskTimes.{TaskTimes}
+use Rattle.task_times.specs.declared.doing_times.DoingTimes.{DoingTimes}
+use Rattle.task_times.specs.DoingTimes.{doing_times}
 use Rattle.task_times.specs.TaskSums.{charged_to, charged_more}
 use Rattle.task_times.proofs.Counted.{charged_more-none, cookies_more, cookies_fit}
 use Rattle.task_times.proofs.sums.charge_cookies.Goals as goal
 
+abbrev no_time : DoingTimes
+no_time = doing_times (λ does. 0)
+
 pub charge-requires : goal.charge-requires
 charge-requires c =
-    let low = c.requires.rows c.loop-times.times-index (record { ran = 0; waited = 0; slept = 0; charged = 0; cookie = 0 }) c.loop-times-test.true in
-    omega (arith, c.loop-times.invariant.fits _ (record { ran = 0; waited = 0; slept = 0; charged = 0 }) low, c.loop-times-test.true)
+    let low = c.requires.rows c.loop-times.times-index (record { by_doing = no_time; charged = 0; cookie = 0 }) c.loop-times-test.true in
+    omega (arith, c.loop-times.invariant.fits _ (record { by_doing = no_time; charged = 0 }) low, c.loop-times-test.true)
 
 pub loop-times-init : goal.loop-times-init
 loop-times-init c =
@@ -22,7 +27,7 @@ loop-times-preserved c =
     let tasks = c.args.tasks.now in
     let rows = c.loop-times.cookies in
     let i = c.loop-times.times-index in
-    let none : TaskTimes = record { ran = 0; waited = 0; slept = 0; charged = 0; cookie = 0 } in
+    let none : TaskTimes = record { by_doing = no_time; charged = 0; cookie = 0 } in
     let times = get_or tasks i none in
     let low : times.cookie < length rows = omega (arith, c.requires.rows i none c.loop-times-test.true, c.loop-times.auto.cookies) in
     record {
