@@ -4,11 +4,11 @@ ghost use Rattle.std.specs.Prelude.{◌≡◌, ◌<◌, IfOk};
 ghost use Rattle.cs_types.specs.Scenario.{is_actor};
 ghost use Rattle.sibling_workers.specs.Race.{actor_at, has_step, steps_by, lists_of};
 
-use cs_types::{Actor, List, OutOfMemory, Step};
+use cs_types::{Actor, List, MOST_SIBLINGS, OutOfMemory, Step};
 use std::alloc::Global;
 
 /// How many siblings a core may have. The callers stand behind them in the order.
-const SIBLINGS: u8 = 16;
+const SIBLINGS: u8 = MOST_SIBLINGS as u8;
 
 /// How many actors there can be, the callers among them.
 const ACTORS: u8 = 24;
