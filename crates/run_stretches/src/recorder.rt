@@ -35,10 +35,9 @@ impl Model for Recorder {
 
     ghost Value = { ℕ };
 
-    ghost view = { λ recorder. recorder.shown.siblings };
+    ghost view = { λ recorder. vec_len recorder.open_stretches };
 
-    ghost invariant = { λ recorder. (vec_len recorder.open_stretches ≡ recorder.shown.siblings)
-        × (vec_len recorder.queued ≡ recorder.shown.siblings) };
+    ghost invariant = { λ recorder. vec_len recorder.queued ≡ vec_len recorder.open_stretches };
 }
 
 /// Marks the home of a task that is queued.

@@ -1,7 +1,10 @@
 //! What a run shows over time, once it is played.
 
+ghost use Rattle.std.specs.Prelude.{◌≡◌};
+
 use cs_types::{Cpu, Pid};
 use run_times::Doing;
+use std::marker::Model;
 
 /// A stretch of time in which a sibling does one thing.
 #[derive(Clone, Copy)]
@@ -39,6 +42,16 @@ pub struct RunStretches {
     pub(crate) moments: Vec<u64>,
 }
 
+// It stands for what each sibling did over time.
+impl Model for RunStretches {
+    ghost use Rattle.std.specs.Prelude.{List};
+    ghost use Rattle.run_stretches.specs.declared.stretches.Stretch.{Stretch};
+
+    ghost Value = { List Stretch };
+
+    ghost view = { λ run. run.stretches.items };
+}
+
 impl RunStretches {
     /// The siblings of the core, a count.
     pub fn siblings(&self) -> u8 {
@@ -52,7 +65,9 @@ impl RunStretches {
 
     /// The stretches by rising begin, and of one begin by rising sibling. Those of a sibling follow one another without
     /// a gap, from 0 to the end.
-    pub fn stretches(&self) -> &[Stretch] {
+    pub fn stretches(&self) -> &[Stretch]
+        ensures { result.now ≡ self.now }
+    {
         self.stretches.as_slice()
     }
 
