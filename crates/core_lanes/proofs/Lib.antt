@@ -1,5 +1,6 @@
 pub mod Stays
 pub mod Queues
+pub mod AtHome
 pub mod Replaced
 pub mod Starts
 pub mod Lists

@@ -1,6 +1,7 @@
 -- Lanes: the room that a core and a table stand for, and that these agree.
 use Rattle.std.specs.Prelude.{◌≡◌, ◌≢◌, ℕ, ◌+◌, ◌^◌, ◌<◌, ◌≤◌, ◌==◌, if◌then◌else◌, List, [], length, map, find, replicate, Some, None, true, false, All, IsTrue, slice_get, unwrap_or, IfSome, IsSomeAnd}
 use Rattle.cs_types.specs.declared.task.Task.{Task}
+use Rattle.cs_types.specs.declared.queue.Queued.{Queued}
 use Rattle.cs_types.specs.declared.view.CpuView.{CpuView}
 use Rattle.cs_types.specs.Scenario.{IsPolicy}
 use Rattle.cs_types.specs.Room.{SiblingState, idle, RoomState, Interval, has_pid, sibling_of, task_of}
@@ -146,27 +147,21 @@ pub record IsFit (count : ℕ) (task : Task) : Type 0 where
 abbrev pub queues_of : {Q : Type 0} {g : Ghosts Q} → Core Q g → List Q
 queues_of core = map (λ lane. lane.queue) core.lanes.items
 
--- each queue holds the tasks that the table has queued on its sibling, and can take as many as the table
+-- each queue holds the list of its sibling, and can take as many as the table
+abbrev pub AreHeldAs : {Q : Type 0} {g : Ghosts Q} → (ℕ → List Queued) → Core Q g × Table → Type 0
+AreHeldAs {Q} {g} lists both = (cpu : ℕ) (queue : Q) → slice_get (queues_of both.0) cpu ≡ Some queue → g.holds queue both.1.limit (lists cpu)
+
+-- each holds the tasks that the table has queued on its sibling
 abbrev pub AreHeld : {Q : Type 0} {g : Ghosts Q} → Core Q g × Table → Type 0
-AreHeld {Q} {g} both =
-    (cpu : ℕ) (queue : Q) → slice_get (queues_of both.0) cpu ≡ Some queue → g.holds queue both.1.limit (queued_at both.1.tasks cpu)
+AreHeld both = AreHeldAs (queued_at both.1.tasks) both
 
 -- the same but for the task with this pid, which none of them holds
 abbrev pub AreHeldBut : {Q : Type 0} {g : Ghosts Q} → ℕ → Core Q g × Table → Type 0
-AreHeldBut {Q} {g} pid both =
-    (cpu : ℕ) (queue : Q) → slice_get (queues_of both.0) cpu ≡ Some queue → g.holds queue both.1.limit (others pid (queued_at both.1.tasks cpu))
+AreHeldBut pid both = AreHeldAs (λ cpu. others pid (queued_at both.1.tasks cpu)) both
 
 -- the same while the tasks of a sibling leave it: its queue is empty already
 abbrev pub AreHeldAway : {Q : Type 0} {g : Ghosts Q} → ℕ → Core Q g × Table → Type 0
-AreHeldAway {Q} {g} leaving both =
-    (cpu : ℕ) (queue : Q) → slice_get (queues_of both.0) cpu ≡ Some queue →
-    g.holds queue both.1.limit (if cpu == leaving then [] else queued_at both.1.tasks cpu)
-
--- and with neither the task with this pid
-abbrev pub AreHeldAwayBut : {Q : Type 0} {g : Ghosts Q} → ℕ → ℕ → Core Q g × Table → Type 0
-AreHeldAwayBut {Q} {g} leaving pid both =
-    (cpu : ℕ) (queue : Q) → slice_get (queues_of both.0) cpu ≡ Some queue →
-    g.holds queue both.1.limit (if cpu == leaving then [] else others pid (queued_at both.1.tasks cpu))
+AreHeldAway leaving both = AreHeldAs (λ cpu. if cpu == leaving then [] else queued_at both.1.tasks cpu) both
 
 -- the core before the first step, with a queue for each sibling that has no task and can take so many
 pub record IsFirstCore {Q : Type 0} {g : Ghosts Q} (siblings tasks : ℕ) (core : Core Q g) : Type 0 where

@@ -2,8 +2,6 @@ use Rattle.std.proofs.Common.{Option, set, length-set, true, Some, None, Bor, �
 use Rattle.std.specs.Prelude.{◌==◌, All, IsTrue, find, slice_get, option_copied}
 use Rattle.std.specs.Global.{Vec}
 use Rattle.std.specs.Option.{IsSome}
-use Rattle.std.proofs.lemmas.List.{map-set}
-use Rattle.std.proofs.Math.Seq.{map-set_same}
 use Rattle.std.proofs.lemmas.Bool.{cases_Bool, cond-true, cond-false, eqb-true, eqb-false, ne_eqb}
 use Rattle.cs_types.proofs.Foremost.{find_passes}
 use Rattle.cs_types.proofs.Spots.{replaced_by}
@@ -17,14 +15,19 @@ use Rattle.core_lanes.specs.declared.lane.Lane.{Lane}
 use Rattle.core_lanes.specs.declared.queue.SiblingQueue.{Ghosts}
 use Rattle.core_lanes.specs.declared.lanes.Core.{Core}
 use Rattle.core_lanes.specs.Numbers.{numbers_by}
-use Rattle.core_lanes.specs.Lanes.{lane_state, bare, room_by, room_of, queues_of, AreHeldAwayBut, AgreeAway, IsFit, MayEnter}
+use Rattle.core_lanes.specs.Lanes.{room_by, room_of, queues_of, AreHeldAs, AgreeAway, IsFit, MayEnter}
 use Rattle.core_lanes.specs.Changes.{Kept, kept_of}
-use Rattle.core_lanes.proofs.Queues.{held-set, others-replaced, others-absent, absent_from, off_elsewhere}
+use Rattle.core_lanes.proofs.Queues.{others-replaced, others-absent, absent_from, off_elsewhere}
+use Rattle.core_lanes.proofs.AtHome.{held_home, bare_home}
 use Rattle.core_lanes.proofs.Replaced.{is_of, own_stamp}
-use Rattle.core_lanes.proofs.Stays.{some_beside, number_of, queue_of, queue_at, stamp_next}
+use Rattle.core_lanes.proofs.Stays.{some_beside, queue_of, queue_at, stamp_next}
 use Rattle.core_lanes.proofs.lanes.Core.enter.Given.{Over}
 use Rattle.core_lanes.proofs.lanes.Core.enter.Goals as goal
 use Rattle.core_lanes.proofs.lanes.Core.enter.Goals.{After-unwrap-entered}
+
+-- what the queues hold while the tasks of a sibling leave it, but for the task with this pid
+abbrev AreHeldAwayBut : {Q : Type 0} {g : Ghosts Q} → ℕ → ℕ → Core Q g × Table → Type 0
+AreHeldAwayBut leaving pid both = AreHeldAs (λ cpu. cond (cpu == leaving) [] (others pid (queued_at both.1.tasks cpu))) both
 
 -- the table then
 abbrev with : Table → Task → Table
@@ -191,11 +194,9 @@ returns g c =
     let task = c.unwrap-entered.result.now in
     let pid = task.spec.pid in
     let lane = c.index_mut.result.now in
-    let after = record lane { queue = c.put.new.self } in
     let lanes = then.lanes.items in
-    let same : (record (bare then) { siblings = map lane_state (set lanes to after); own = map number_of (set lanes to after) }) ≡ bare then =
-    rw (map-set_same lane_state lanes to after lane (ap lane_state c.index_mut.ensures.value), map-set_same number_of lanes to after lane (ap number_of c.index_mut.ensures.value)) refl in
-    let many = length-set lanes to after in
+    let same = bare_home then to lane c.put.new.self c.index_mut.ensures.value in
+    let many = length-set lanes to (record lane { queue = c.put.new.self }) in
     record {
       room = λ t found beside. (λ i. room_by beside (same i) table) ∙ placed.room t found beside;
       numbers = (λ i. numbers_by (same i) table) ∙ placed.numbers;
@@ -205,13 +206,11 @@ returns g c =
         few_tasks = apart.few_tasks;
         tasks = subst (λ n. All (IsFit n) table.tasks) (sym many) apart.tasks;
         stamped = apart.stamped;
-        held = rw (map-set queue_of lanes to after)
-            (held-set (λ cpu x. g.Q.SiblingQueue.holds x table.limit (cond (cpu == from) [] (others pid (queued_at table.tasks cpu))))
-            (λ cpu x. g.Q.SiblingQueue.holds x table.limit (cond (cpu == from) [] (queued_at table.tasks cpu))) (queues_of then) to c.put.new.self
-            (λ cpu x other held.
-            subst (λ qs. g.Q.SiblingQueue.holds x table.limit qs)
-            (ap (cond (cpu == from) []) (others-absent table.tasks task cpu apart.table.rising entered.there (off_elsewhere task cpu (λ is. other (is ∙ entered.home))))) held)
-            entered.away_but
-            (subst (λ qs. g.Q.SiblingQueue.holds c.put.new.self table.limit qs) (sym (cond-false (to == from) [] (queued_at table.tasks to) (ne_eqb to from c.requires.elsewhere))) c.put.ensures.holds));
+        held = subst (λ home. (cpu : ℕ) (q : _) → slice_get (map queue_of (set lanes home (record lane { queue = c.put.new.self }))) cpu ≡ Some q → g.Q.SiblingQueue.holds q table.limit (cond (cpu == from) [] (queued_at table.tasks cpu)))
+            entered.home
+            (held_home then table task (λ cpu. cond (cpu == from) [] (others pid (queued_at table.tasks cpu))) (λ cpu. cond (cpu == from) [] (queued_at table.tasks cpu))
+            (λ cpu off. ap (cond (cpu == from) []) (others-absent table.tasks task cpu apart.table.rising entered.there off)) entered.away_but lane c.put.new.self
+            (subst (λ n. g.Q.SiblingQueue.holds c.put.new.self table.limit (cond (n == from) [] (queued_at table.tasks n))) (sym entered.home)
+            (subst (λ qs. g.Q.SiblingQueue.holds c.put.new.self table.limit qs) (sym (cond-false (to == from) [] (queued_at table.tasks to) (ne_eqb to from c.requires.elsewhere))) c.put.ensures.holds)));
       };
     }

@@ -1,10 +1,8 @@
-use Rattle.std.proofs.Common.{ℕ, refl, subst, ap}
-use Rattle.std.proofs.lemmas.List.{map-set}
-use Rattle.std.proofs.Math.Seq.{map-set_same}
+use Rattle.std.proofs.Common.{refl}
 use Rattle.core_lanes.specs.Queued.{queued_at, others}
-use Rattle.core_lanes.specs.Lanes.{lane_state, queues_of}
-use Rattle.core_lanes.proofs.Stays.{number_of, queue_of, queue_at}
-use Rattle.core_lanes.proofs.Queues.{held-set, others-absent, off_elsewhere, off_asleep}
+use Rattle.core_lanes.proofs.Stays.{queue_at}
+use Rattle.core_lanes.proofs.Queues.{others-absent}
+use Rattle.core_lanes.proofs.AtHome.{held_asleep, held_home, bare_home}
 use Rattle.core_lanes.proofs.lanes.Core.put.Goals as goal
 
 pub put-requires : goal.put-requires
@@ -24,27 +22,20 @@ pub returns-then-task : goal.returns-then-task
 returns-then-task g c =
     let task = c.args.task.now in
     let tasks = c.args.table.now.tasks in
-    let limit = c.args.table.now.limit in
-    let pid = task.spec.pid in
-    let lane = c.index_mut.result.now in
-    let after = record lane { queue = c.put.new.self } in
-    let lanes = c.args.self.now.lanes.items in
+    let home = c.requires.home in
     record {
-      bare = rw (map-set_same lane_state lanes c.args.task.now.home after lane (ap lane_state c.index_mut.ensures.value), map-set_same number_of lanes c.args.task.now.home after lane (ap number_of c.index_mut.ensures.value)) refl;
-      held = rw (map-set queue_of c.args.self.now.lanes.items task.home after)
-          (held-set (λ cpu x. g.Q.SiblingQueue.holds x limit (others pid (queued_at tasks cpu))) (λ cpu x. g.Q.SiblingQueue.holds x limit (queued_at tasks cpu)) (queues_of c.args.self.now) task.home c.put.new.self
-          (λ cpu x other held. let off = λ (n : ℕ). off_elsewhere task cpu other in subst (λ qs. g.Q.SiblingQueue.holds x limit qs) (others-absent tasks task cpu c.requires.home.table.rising c.requires.home.there (off cpu)) held)
-          c.requires.home.held c.put.ensures.holds);
+      bare = bare_home c.args.self.now task.home c.index_mut.result.now c.put.new.self c.index_mut.ensures.value;
+      held = held_home c.args.self.now c.args.table.now task (λ cpu. others task.spec.pid (queued_at tasks cpu)) (queued_at tasks)
+          (λ cpu off. others-absent tasks task cpu home.table.rising home.there off) home.held c.index_mut.result.now c.put.new.self c.put.ensures.holds;
     }
 
 pub returns-else-task : goal.returns-else-task
 returns-else-task g c =
     let task = c.args.task.now in
     let tasks = c.args.table.now.tasks in
-    let limit = c.args.table.now.limit in
+    let home = c.requires.home in
     record {
       bare = refl;
-      held = λ cpu x at.
-          let off = off_asleep task cpu c.if-task.false in
-          subst (λ qs. g.Q.SiblingQueue.holds x limit qs) (others-absent tasks task cpu c.requires.home.table.rising c.requires.home.there off) (c.requires.home.held cpu x at);
+      held = held_asleep c.args.self.now c.args.table.now task (λ cpu. others task.spec.pid (queued_at tasks cpu)) (queued_at tasks)
+          (λ cpu off. others-absent tasks task cpu home.table.rising home.there off) home.held c.if-task.false;
     }

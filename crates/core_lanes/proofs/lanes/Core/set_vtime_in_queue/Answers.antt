@@ -1,12 +1,9 @@
-use Rattle.std.proofs.Common.{refl, sym, subst, ap}
-use Rattle.std.proofs.lemmas.List.{map-set}
-use Rattle.std.proofs.Math.Seq.{map-set_same}
+use Rattle.std.proofs.Common.{refl, sym}
 use Rattle.cs_types.specs.declared.task.Task.{Task}
 use Rattle.core_lanes.specs.Queued.{queued_at, given_vtime}
-use Rattle.core_lanes.specs.Lanes.{lane_state, queues_of}
-use Rattle.core_lanes.proofs.Stays.{number_of, queue_of, queue_at}
-use Rattle.core_lanes.proofs.Queues.{held-set, off_elsewhere, off_asleep}
+use Rattle.core_lanes.proofs.Stays.{queue_at}
 use Rattle.core_lanes.proofs.Replaced.{queued_at-replaced}
+use Rattle.core_lanes.proofs.AtHome.{held_asleep, held_home, bare_home}
 use Rattle.core_lanes.proofs.lanes.Core.set_vtime_in_queue.Goals as goal
 
 pub set_vtime-requires : goal.set_vtime-requires
@@ -29,18 +26,11 @@ returns-then-task g c =
     let task = c.args.task.now in
     let now : Task = record task { vtime = c.args.vtime } in
     let tasks = c.args.table.now.tasks in
-    let limit = c.args.table.now.limit in
-    let lane = c.index_mut.result.now in
-    let after = record lane { queue = c.set_vtime.new.self } in
-    let lanes = c.args.self.now.lanes.items in
+    let home = c.requires.home in
     record {
-      bare = rw (map-set_same lane_state lanes c.args.task.now.home after lane (ap lane_state c.index_mut.ensures.value), map-set_same number_of lanes c.args.task.now.home after lane (ap number_of c.index_mut.ensures.value)) refl;
-      held = rw (map-set queue_of c.args.self.now.lanes.items task.home after)
-          (held-set (λ cpu x. g.Q.SiblingQueue.holds x limit (queued_at tasks cpu)) (λ cpu x. g.Q.SiblingQueue.holds x limit (queued_at (given_vtime task c.args.vtime tasks) cpu)) (queues_of c.args.self.now) task.home c.set_vtime.new.self
-          (λ cpu x other held.
-          let off = off_elsewhere task cpu other in
-          subst (λ qs. g.Q.SiblingQueue.holds x limit qs) (sym (queued_at-replaced now task tasks cpu c.requires.home.table.rising c.requires.home.there off off)) held)
-          c.requires.home.held c.set_vtime.ensures.holds);
+      bare = bare_home c.args.self.now task.home c.index_mut.result.now c.set_vtime.new.self c.index_mut.ensures.value;
+      held = held_home c.args.self.now c.args.table.now task (queued_at tasks) (queued_at (given_vtime task c.args.vtime tasks))
+          (λ cpu off. sym (queued_at-replaced now task tasks cpu home.table.rising home.there off off)) home.held c.index_mut.result.now c.set_vtime.new.self c.set_vtime.ensures.holds;
     }
 
 pub returns-else-task : goal.returns-else-task
@@ -48,10 +38,9 @@ returns-else-task g c =
     let task = c.args.task.now in
     let now : Task = record task { vtime = c.args.vtime } in
     let tasks = c.args.table.now.tasks in
-    let limit = c.args.table.now.limit in
+    let home = c.requires.home in
     record {
       bare = refl;
-      held = λ cpu x at.
-          let off = off_asleep task cpu c.if-task.false in
-          subst (λ qs. g.Q.SiblingQueue.holds x limit qs) (sym (queued_at-replaced now task tasks cpu c.requires.home.table.rising c.requires.home.there off off)) (c.requires.home.held cpu x at);
+      held = held_asleep c.args.self.now c.args.table.now task (queued_at tasks) (queued_at (given_vtime task c.args.vtime tasks))
+          (λ cpu off. sym (queued_at-replaced now task tasks cpu home.table.rising home.there off off)) home.held c.if-task.false;
     }
