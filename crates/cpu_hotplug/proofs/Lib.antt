@@ -2,3 +2,4 @@ mod Ranks
 mod Leaving
 mod Steps
 mod Moving
+mod Each

@@ -1,5 +1,4 @@
-use Rattle.std.proofs.Common.{◌≡◌, ◌∙◌, ap, sym, subst, refl, length, true, false, arith, eq-eqb, ne_eqb}
-use Rattle.std.specs.Prelude.{◌==◌}
+use Rattle.std.proofs.Common.{ℕ, ◌≡◌, ◌∙◌, ap, sym, subst, refl, length, true, false, arith, eq-eqb, ne_eqb}
 use Rattle.std.proofs.lemmas.List.{length-map}
 use Rattle.cs_types.specs.Room.{RoomState, online}
 use Rattle.cs_types.specs.Step.{Stepped, take_offline}
@@ -11,8 +10,9 @@ use Rattle.core_lanes.specs.Lanes.{Beside, at, beside_after, lane_state, room_of
 use Rattle.core_lanes.specs.Numbers.{Numbers, numbers_in, booked, touched}
 use Rattle.core_lanes.specs.Changes.{IsBooked}
 use Rattle.core_lanes.proofs.Stays.{same_stays}
-use Rattle.cpu_hotplug.specs.Hotplugs.{leave_touches}
-use Rattle.cpu_hotplug.specs.declared.hotplug.Hotplug.TheVariants.{Done}
+use Rattle.cpu_hotplug.specs.Hotplugs.{reply_of, leave_touches, TakesOffline}
+use Rattle.cpu_hotplug.specs.declared.hotplug.Hotplug.{Hotplug}
+use Rattle.cpu_hotplug.specs.declared.hotplug.Hotplug.TheVariants.{Done, Busy, Already}
 use Rattle.core_lanes.proofs.Onlines.{another}
 use Rattle.cpu_hotplug.proofs.Steps.{offline_step}
 use Rattle.cpu_hotplug.proofs.hotplug.offline.Goals as goal
@@ -31,6 +31,23 @@ still_booked : {Q : Type 0} {g : Ghosts Q} (beside : Beside) (both : Core Q g ×
 still_booked beside both room is kept =
     kept ∙ untouched (booked (room_of beside both) (numbers_in beside both)) ∙ ap (λ (r : RoomState). touched 0 (booked r (numbers_in beside both))) is
 
+-- an ask that nothing comes of changes nothing
+refused : {Q : Type 0} {g : Ghosts Q} (now cpu : ℕ) (core : Core Q g) (table : Table) (made : Hotplug) → ((queued : ℕ) → leave_touches made queued ≡ 0) →
+    ((beside : Beside) → let room = room_of (at now beside) (core, table) in take_offline room cpu ≡ record { reply = reply_of made; room = room }) →
+    TakesOffline now (core, table) (core, table) cpu made
+refused now cpu core table made none step = record {
+  reply = λ beside. sym (ap (λ (one : Stepped). one.reply) (step beside));
+  room = λ beside.
+      let room = room_of (at now beside) (core, table) in
+      stands (at now beside) (core, table) (take_offline room cpu).room (sym (ap (λ (one : Stepped). one.room) (step beside)));
+  numbers = λ beside kept.
+      let room = room_of (at now beside) (core, table) in
+      still_booked (at now beside) (core, table) (take_offline room cpu).room (sym (ap (λ (one : Stepped). one.room) (step beside))) kept
+      ∙ ap (λ n. touched n (booked (take_offline room cpu).room (numbers_in beside (core, table)))) (sym (none (length (queued_among table.tasks cpu))));
+  unchanged = λ not_done. refl;
+  stays = same_stays;
+}
+
 pub leave-requires : goal.leave-requires
 leave-requires g c = record {
   may = c.requires;
@@ -44,38 +61,16 @@ leave-requires g c = record {
 
 pub returns-then-not-is_online : goal.returns-then-not-is_online
 returns-then-not-is_online g c =
-    let step = λ (beside : Beside).
-    let room = room_of (at c.args.now beside) (c.args.core.now, c.args.table.now) in
-    sym (offline_step room c.args.cpu false (length (online room) == 1) (sym (c.is_online.ensures (at c.args.now beside) c.args.table.now) ∙ c.if-not-is_online.true) refl) in
-    record {
-      reply = λ beside. ap (λ (made : Stepped). made.reply) (step beside);
-      room = λ beside.
-          let room = room_of (at c.args.now beside) (c.args.core.now, c.args.table.now) in
-          stands (at c.args.now beside) (c.args.core.now, c.args.table.now) (take_offline room c.args.cpu).room (ap (λ (made : Stepped). made.room) (step beside));
-      numbers = λ beside kept.
-          let room = room_of (at c.args.now beside) (c.args.core.now, c.args.table.now) in
-          still_booked (at c.args.now beside) (c.args.core.now, c.args.table.now) (take_offline room c.args.cpu).room (ap (λ (made : Stepped). made.room) (step beside)) kept;
-      unchanged = λ not_done. refl;
-      stays = same_stays;
-    }
+    refused c.args.now c.args.cpu c.args.core.now c.args.table.now Already (λ queued. refl) (λ beside.
+    offline_step (room_of (at c.args.now beside) (c.args.core.now, c.args.table.now)) c.args.cpu false _
+    (sym (c.is_online.ensures (at c.args.now beside) c.args.table.now) ∙ c.if-not-is_online.true) refl)
 
 pub returns-then-online_count-eq1 : goal.returns-then-online_count-eq1
 returns-then-online_count-eq1 g c =
-    let step = λ (beside : Beside).
+    refused c.args.now c.args.cpu c.args.core.now c.args.table.now Busy (λ queued. refl) (λ beside.
     let room = room_of (at c.args.now beside) (c.args.core.now, c.args.table.now) in
-    let alone = eq-eqb (length (online room)) 1 (sym (c.online_count.ensures (at c.args.now beside) c.args.table.now) ∙ c.if-online_count-eq1.true) in
-    sym (offline_step room c.args.cpu true true (sym (c.is_online.ensures (at c.args.now beside) c.args.table.now) ∙ c.if-not-is_online.false) alone) in
-    record {
-      reply = λ beside. ap (λ (made : Stepped). made.reply) (step beside);
-      room = λ beside.
-          let room = room_of (at c.args.now beside) (c.args.core.now, c.args.table.now) in
-          stands (at c.args.now beside) (c.args.core.now, c.args.table.now) (take_offline room c.args.cpu).room (ap (λ (made : Stepped). made.room) (step beside));
-      numbers = λ beside kept.
-          let room = room_of (at c.args.now beside) (c.args.core.now, c.args.table.now) in
-          still_booked (at c.args.now beside) (c.args.core.now, c.args.table.now) (take_offline room c.args.cpu).room (ap (λ (made : Stepped). made.room) (step beside)) kept;
-      unchanged = λ not_done. refl;
-      stays = same_stays;
-    }
+    offline_step room c.args.cpu true true (sym (c.is_online.ensures (at c.args.now beside) c.args.table.now) ∙ c.if-not-is_online.false)
+    (eq-eqb (length (online room)) 1 (sym (c.online_count.ensures (at c.args.now beside) c.args.table.now) ∙ c.if-online_count-eq1.true)))
 
 pub returns : goal.returns
 returns g c =

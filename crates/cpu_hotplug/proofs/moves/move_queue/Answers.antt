@@ -1,132 +1,48 @@
-use Rattle.std.proofs.Common.{Some, true, ◌≡◌, ◌+◌, ◌*◌, ◌<◌, ◌^◌, ℕ, List, refl, subst, sym, ap, ◌∙◌, arith, length, map}
-use Rattle.std.specs.Prelude.{◌==◌, All}
-use Rattle.std.proofs.lemmas.Bool.{and_parts, eqb-true}
-use Rattle.cs_types.specs.declared.task.Task.{Task}
-use Rattle.cs_types.specs.Room.{RoomState, SiblingState}
-use Rattle.cs_types.specs.Queue.{queued_of}
-use Rattle.cs_types.specs.Queueing.{moved_to}
-use Rattle.cs_types.proofs.Spots.{replaced_by}
-use Rattle.core_lanes.specs.Queued.{queued_among, queued_at}
-use Rattle.core_lanes.specs.Lanes.{BareCore, room_by, room_of, IsFit}
-use Rattle.core_lanes.specs.Numbers.{Numbers, numbers_by, numbers_of, touched}
-use Rattle.core_lanes.specs.Changes.{Kept}
-use Rattle.core_lanes.proofs.Stays.{some_beside, found_in}
-use Rattle.cpu_hotplug.proofs.Ranks.{each_of}
-use Rattle.cpu_hotplug.proofs.Leaving.{few, length-told, moved_is, so_far, none_moved, all_moved, one_more, next_found, none_left}
-use Rattle.std.proofs.Common.{[], ◌≢◌}
-use Rattle.std.specs.Prelude.{slice_get}
+use Rattle.std.proofs.Common.{Some, ◌≡◌, ◌<◌, ℕ, List, [], ◌≢◌, subst, sym, ap, ◌∙◌, arith, refl, length, map}
+use Rattle.std.specs.Prelude.{All, slice_get}
 use Rattle.std.specs.Global.{Vec}
 use Rattle.task_table.specs.Table.{Table}
+use Rattle.cs_types.specs.declared.task.Task.{Task}
 use Rattle.cs_types.specs.declared.queue.Queued.{Queued}
+use Rattle.cs_types.specs.Room.{RoomState}
+use Rattle.cs_types.specs.Queue.{queued_of}
 use Rattle.cs_types.specs.Hotplug.{lowest_other, moved_off}
 use Rattle.core_lanes.specs.declared.queue.SiblingQueue.{Ghosts}
 use Rattle.core_lanes.specs.declared.lanes.Core.{Core}
 use Rattle.core_lanes.specs.declared.lane.Lane.{Lane}
-use Rattle.core_lanes.specs.Queued.{AreStamped}
+use Rattle.core_lanes.specs.Queued.{queued_among, queued_at, AreStamped}
 use Rattle.core_lanes.specs.Exchanges.{AgreeApart, MayExchange}
-use Rattle.core_lanes.specs.Lanes.{bare, queues_of, Agree, AreHeld}
-use Rattle.core_lanes.specs.Changes.{kept_of}
-use Rattle.core_lanes.proofs.Stays.{as_many_bare, queue_of}
+use Rattle.core_lanes.specs.Lanes.{BareCore, bare, queues_of, room_by, room_of, IsFit, Agree, AreHeld}
+use Rattle.core_lanes.specs.Numbers.{numbers_by}
+use Rattle.core_lanes.specs.Changes.{Kept, kept_of}
+use Rattle.core_lanes.proofs.Stays.{some_beside, as_many_bare, queue_of}
 use Rattle.cpu_hotplug.specs.Leaves.{NoneBehind}
+use Rattle.cpu_hotplug.proofs.Leaving.{none_left}
 use Rattle.cpu_hotplug.proofs.Moving.{least_from, least_to, anew, moved_there, elsewhere, none_behind}
+use Rattle.cpu_hotplug.proofs.Each.{none_yet, may_move, one_moved, tasks_all, room_all, numbers_all}
 use Rattle.cpu_hotplug.proofs.moves.move_queue.Goals as goal
-
--- ---- before any moved
 
 pub loop-mover-init : goal.loop-mover-init
 loop-mover-init g c =
-    let core = c.args.core.now in
-    let table = c.args.table.now in
     let agree = c.requires.to.may.agree in
     record {
-      room = λ beside.
-          let room = room_of beside (core, table) in
-          let next : room.next_stamp ≡ room.next_stamp + 0 = omega arith in
-          let tasks = sym (none_moved room c.args.cpu table.tasks) in
-          λ i. let first : RoomState = record room { tasks = tasks i; next_stamp = next i } in first;
-      numbers = ap (λ n. let first : Numbers = record (numbers_of (core, table)) { task = n } in first) (omega arith);
-      kept = refl;
-      apart = record { table = agree.table; few_tasks = agree.few_tasks; tasks = agree.tasks; stamped = agree.stamped; held = tt };
+      moved = none_yet c.args.cpu c.args.to c.args.movers.now c.args.core.now c.args.table.now c.requires.to c.args.core.now refl
+          (record { table = agree.table; few_tasks = agree.few_tasks; tasks = agree.tasks; stamped = agree.stamped; held = tt });
       lanes = refl;
     }
 
--- ---- it is placed on the other sibling
-
+-- each is placed on the other sibling
 pub place-requires : goal.place-requires
 place-requires g c =
-    let core = c.args.core.now in
-    let table = c.args.table.now in
-    let cpu = c.args.cpu in
-    let now = c.loop-mover.table in
-    let room = room_of some_beside (core, table) in
-    let pids = c.tell_queued.new.movers in
-    let told = c.tell_queued.ensures.told in
-    let are = ap (λ (one : RoomState). one.tasks) (c.loop-mover.invariant.room some_beside) in
-    let found = next_found room cpu c.requires.to.may.agree.table.rising c.requires.to.may.agree.stamped pids told c.loop-mover.mover-index c.loop-mover-test.true now.tasks are in
-    let task = found.0 in
-    let next = found.2 in
-    let many : length c.loop-mover.core.lanes.items ≡ length core.lanes.items = ap (λ (kept : Kept). kept.siblings) c.loop-mover.invariant.kept in
-    let movers_are = length-told room cpu c.requires.to.may.agree.table.rising c.requires.to.may.agree.stamped pids told in
-    let invariant = c.loop-mover.invariant in
-    let on = and_parts task.queued (task.home == cpu) next.on in
-    record {
-      task = task;
-      there = found.1;
-      queued = on.0;
-      home = eqb-true task.home cpu on.1;
-      other = omega (arith, c.requires.to.within, many);
-      elsewhere = λ here. c.requires.to.another some_beside (sym (c.requires.to.lowest some_beside table) ∙ here);
-      agree = invariant.apart;
-      vtime = found_in (λ (one : Task). one.vtime < 2 ^ 100) task.spec.pid table.tasks task c.requires.to.may.low.vtimes next.there;
-      leasts = subst (λ (siblings : List SiblingState). All (λ (sibling : SiblingState). sibling.least < 2 ^ 100) siblings)
-          (sym (ap (λ (room : RoomState). room.siblings) (invariant.room some_beside))) c.requires.to.may.low.leasts;
-      stamp = omega (arith, ap (λ (one : RoomState). one.next_stamp) (invariant.room some_beside), c.loop-mover-test.true, movers_are, few table.tasks cpu, c.requires.to.may.stamp);
-      touches = omega (arith, ap (λ (numbers : Numbers). numbers.task) invariant.numbers, c.loop-mover-test.true, movers_are, few table.tasks cpu, c.requires.to.may.touches);
-    }
-
-two_more : (n i : ℕ) → n + 2 * i + 2 ≡ n + 2 * (i + 1)
-two_more n i = omega arith
+    may_move c.args.cpu c.args.to c.args.movers.now c.args.core.now c.args.table.now c.requires.to c.tell_queued.new.movers c.tell_queued.ensures.told
+    c.loop-mover.mover-index c.loop-mover-test.true (c.loop-mover.core, c.loop-mover.table) c.loop-mover.invariant.moved
 
 pub loop-mover-preserved : goal.loop-mover-preserved
-loop-mover-preserved g c =
-    let core = c.args.core.now in
-    let table = c.args.table.now in
-    let cpu = c.args.cpu in
-    let now = c.loop-mover.table in
-    let room = room_of some_beside (core, table) in
-    let pids = c.tell_queued.new.movers in
-    let told = c.tell_queued.ensures.told in
-    let are = ap (λ (one : RoomState). one.tasks) (c.loop-mover.invariant.room some_beside) in
-    let found = next_found room cpu c.requires.to.may.agree.table.rising c.requires.to.may.agree.stamped pids told c.loop-mover.mover-index c.loop-mover-test.true now.tasks are in
-    let task = found.0 in
-    let next = found.2 in
-    let i = c.loop-mover.mover-index in
-    let on = next.on in
-    let stamps = ap (λ (one : RoomState). one.next_stamp) (c.loop-mover.invariant.room some_beside) in
-    let stamp = c.loop-mover.core.next_stamp in
-    let moved = moved_to (room_of some_beside (c.loop-mover.core, now)) c.args.to task in
-    let done : Task = record moved { queued = true; stamp = stamp } in
-    let queued : task.queued ≡ true = (and_parts task.queued (task.home == cpu) on).0 in
-    record {
-      room = λ beside.
-          let was = room_of beside (core, table) in
-          let invariant = c.loop-mover.invariant.room beside in
-          let is = ap (λ b. let one : Task = record moved { queued = b; stamp = stamp } in one) (sym queued)
-          ∙ moved_is was (room_of beside (c.loop-mover.core, now)) cpu c.args.to c.loop-mover.core.next_stamp task moved
-          (ap (λ (one : RoomState). one.siblings) invariant) (c.requires.to.lowest beside table) refl on
-          (stamps ∙ ap (λ n. core.next_stamp + n) (sym next.rank)) in
-          let more = ap (map (replaced_by done)) are
-          ∙ one_more was cpu c.requires.to.may.agree.stamped i task next.there on next.rank done is table.tasks (each_of table.tasks c.requires.to.may.agree.table.rising) in
-          let stamp : c.loop-mover.core.next_stamp + 1 ≡ core.next_stamp + (i + 1) = omega (arith, stamps) in
-          c.place.ensures.placed.room task found.1 beside ∙ (λ j. let after : RoomState = record (invariant j) { tasks = more j; next_stamp = stamp j } in after);
-      numbers =
-          c.place.ensures.placed.numbers
-          ∙ ap (touched 2) c.loop-mover.invariant.numbers
-          ∙ ap (λ n. let after : Numbers = record (numbers_of (core, table)) { task = n } in after) (two_more core.task_number i);
-      kept = c.place.ensures.placed.kept ∙ c.loop-mover.invariant.kept;
-      apart = c.place.ensures.placed.agree;
-      lanes = c.place.ensures.lanes ∙ c.loop-mover.invariant.lanes;
-    }
+loop-mover-preserved g c = record {
+  moved = one_moved c.args.cpu c.args.to c.args.movers.now c.args.core.now c.args.table.now c.requires.to c.tell_queued.new.movers c.tell_queued.ensures.told
+      c.loop-mover.mover-index c.loop-mover-test.true (c.loop-mover.core, c.loop-mover.table) c.loop-mover.invariant.moved (c.place.new.self, c.place.new.table) c.place.ensures.placed;
+  lanes = c.place.ensures.lanes ∙ c.loop-mover.invariant.lanes;
+}
 
 -- ---- all tasks
 
@@ -191,42 +107,36 @@ exchange-requires g c =
     let core = c.args.core.now in
     let table = c.args.table.now in
     let cpu = c.args.cpu in
-    let room = room_of some_beside (core, table) in
-    let pids = c.tell_queued.new.movers in
-    let told = c.tell_queued.ensures.told in
-    let are = ap (λ (one : RoomState). one.tasks) (c.loop-mover.invariant.room some_beside) in
-    let i = c.loop-mover.mover-index in
-    let many = length-told room cpu c.requires.to.may.agree.table.rising c.requires.to.may.agree.stamped pids told in
-    let all : i ≡ length (queued_among table.tasks cpu) = omega (arith, many, c.loop-mover-test.false, c.loop-mover.auto.mover-index-end) in
-    let moved = all_moved room cpu table.tasks (each_of table.tasks c.requires.to.may.agree.table.rising) in
-    may_exchange core c.loop-mover.core table c.loop-mover.table cpu c.args.to c.requires.to.may.agree c.loop-mover.invariant.apart c.loop-mover.invariant.lanes
-    (ap (λ (kept : Kept). kept.limit) c.loop-mover.invariant.kept) (c.requires.to.lowest some_beside table)
-    (are ∙ (λ j. (so_far room cpu (all j)).tasks) ∙ moved) c.requires.to.may.cpu c.requires.to.within
-    (λ is. c.requires.to.another some_beside (sym (c.requires.to.lowest some_beside table) ∙ sym is)) c.requires.whole.empty (c.requires.whole.ahead some_beside)
+    let to = c.requires.to in
+    let moved = c.loop-mover.invariant.moved in
+    may_exchange core c.loop-mover.core table c.loop-mover.table cpu c.args.to to.may.agree moved.agree c.loop-mover.invariant.lanes
+    (ap (λ (kept : Kept). kept.limit) moved.kept) (to.lowest some_beside table)
+    (tasks_all cpu c.args.to c.args.movers.now core table to c.tell_queued.new.movers c.tell_queued.ensures.told c.loop-mover.mover-index (omega (arith, c.loop-mover-test.false))
+    c.loop-mover.auto.mover-index-end (c.loop-mover.core, c.loop-mover.table) moved) to.may.cpu to.within
+    (λ is. to.another some_beside (sym (to.lowest some_beside table) ∙ sym is)) c.requires.whole.empty (c.requires.whole.ahead some_beside)
 
 pub returns : goal.returns
 returns g c =
     let core = c.args.core.now in
     let table = c.args.table.now in
     let cpu = c.args.cpu in
-    let room = room_of some_beside (core, table) in
+    let moved = c.loop-mover.invariant.moved in
+    let count = c.loop-mover.mover-index in
+    let beyond = c.loop-mover-test.false in
+    let most = c.loop-mover.auto.mover-index-end in
     let pids = c.tell_queued.new.movers in
     let told = c.tell_queued.ensures.told in
-    let i = c.loop-mover.mover-index in
-    let many = length-told room cpu c.requires.to.may.agree.table.rising c.requires.to.may.agree.stamped pids told in
-    let all : i ≡ length (queued_among table.tasks cpu) = omega (arith, many, c.loop-mover-test.false, c.loop-mover.auto.mover-index-end) in
-    let moved = all_moved room cpu table.tasks (each_of table.tasks c.requires.to.may.agree.table.rising) in
     let bare_is = c.exchange.ensures.bare in
     record {
       room = λ beside.
-          let was = room_of beside (core, table) in
           (λ j. room_by beside (bare_is j) c.loop-mover.table)
-          ∙ c.loop-mover.invariant.room beside ∙ (λ j. so_far was cpu (all j)) ∙ (λ j. let next : RoomState = record (so_far was cpu (length (queued_among table.tasks cpu))) { tasks = moved j } in next);
-      numbers = (λ j. numbers_by (bare_is j) c.loop-mover.table) ∙ c.loop-mover.invariant.numbers ∙ ap (λ n. touched (2 * n) (numbers_of (core, table))) all;
+          ∙ room_all cpu c.args.to c.args.movers.now core table c.requires.to pids told count (omega (arith, beyond)) most (c.loop-mover.core, c.loop-mover.table) moved beside;
+      numbers = (λ j. numbers_by (bare_is j) c.loop-mover.table)
+          ∙ numbers_all cpu c.args.to c.args.movers.now core table c.requires.to pids told count (omega (arith, beyond)) most (c.loop-mover.core, c.loop-mover.table) moved;
       stays = record {
-        agree = λ agree. agree_by c.loop-mover.core c.exchange.new.self c.loop-mover.table c.loop-mover.invariant.apart bare_is c.exchange.ensures.held;
+        agree = λ agree. agree_by c.loop-mover.core c.exchange.new.self c.loop-mover.table moved.agree bare_is c.exchange.ensures.held;
         kept =
             (λ j. let kept : Kept = record (kept_of (c.loop-mover.core, c.loop-mover.table)) { siblings = as_many_bare c.loop-mover.core c.exchange.new.self bare_is j } in kept)
-            ∙ c.loop-mover.invariant.kept;
+            ∙ moved.kept;
       };
     }
