@@ -1,6 +1,6 @@
 -- Steals: what a steal try finds, and whether its source is left idle.
-use Rattle.std.proofs.Common.{◌≡◌, ℕ, zero, suc, ◌<◌, Bool, List, [], ◌∷◌, map, length, get_or, sym, ap, ◌∙◌, inl, inr, arith}
-use Rattle.std.specs.Prelude.{◌&&◌, ◌||◌, ◌==◌, not, filter, is_some, is_none, Some, None, slice_get}
+use Rattle.std.proofs.Common.{◌≡◌, ℕ, Bool, sym, ◌∙◌, inl, inr}
+use Rattle.std.specs.Prelude.{◌&&◌, ◌||◌, ◌==◌, not, filter, is_some, is_none, Some, None}
 use Rattle.std.proofs.lemmas.Bool.{cases_Bool, cond-true, cond-false}
 use Rattle.cs_types.specs.declared.task.Task.{Task}
 use Rattle.cs_types.specs.Room.{RoomState, sibling_of}
@@ -10,8 +10,6 @@ use Rattle.cs_types.specs.Steal.{source_of, may_steal, stolen}
 use Rattle.cs_types.proofs.Filtered.{Contains-filter_parts}
 use Rattle.task_table.specs.Table.{Rises}
 use Rattle.core_lanes.specs.Queued.{IsOf}
-use Rattle.core_lanes.specs.declared.lane.Lane.{Lane}
-use Rattle.core_lanes.proofs.Stays.{queue_of}
 use Rattle.cookie_steal.proofs.Enumerated.{foremost_parts}
 use Rattle.cookie_steal.proofs.Candidates.{candidate_parts}
 use Rattle.core_lanes.proofs.Queues.{is_of}
@@ -33,10 +31,3 @@ stolen_there room thief task rises found =
 -- whether the source becomes pending, as the code tests it
 abbrev pub is_left : RoomState → ℕ → Bool
 is_left room source = is_none (first_on room source) && is_none (sibling_of room source).run && not (room.forced == 0)
-
--- the queue of a sibling is the one at its place
-pub queue_at : {Q : Type 0} (lanes : List (Lane Q)) (cpu : ℕ) (x : Lane Q) → cpu < length lanes → x ≡ get_or lanes cpu x →
-    slice_get (map queue_of lanes) cpu ≡ Some x.queue
-queue_at {Q} [] cpu x below is = absurd (omega arith)
-queue_at {Q} (lane ∷ lanes) zero x below is = ap (λ (one : Lane Q). Some one.queue) (sym is)
-queue_at {Q} (lane ∷ lanes) (suc cpu) x below is = queue_at lanes cpu x (omega arith) is

@@ -1,4 +1,4 @@
-use Rattle.std.proofs.Common.{◌≡◌, ℕ, ◌<◌, List, ap, sym, subst, ◌∙◌, Option}
+use Rattle.std.proofs.Common.{◌≡◌, ℕ, ◌<◌, length, get_or, List, ap, sym, subst, ◌∙◌, Option}
 use Rattle.std.specs.Prelude.{filter, Contains}
 use Rattle.cs_types.specs.declared.task.Task.{Task}
 use Rattle.cs_types.specs.Scenario.{IsPolicy}
@@ -6,13 +6,16 @@ use Rattle.cs_types.specs.Room.{SiblingState}
 use Rattle.cs_types.specs.Order.{goes_before, first_of}
 use Rattle.cs_types.specs.Steal.{may_steal}
 use Rattle.cs_types.proofs.First.{goes_before_is_order}
-use Rattle.core_lanes.specs.Queued.{behind}
-use Rattle.core_lanes.specs.Lanes.{lane_state}
-use Rattle.core_lanes.proofs.Stays.{lane_at, policies_of, found_in}
+use Rattle.task_table.specs.Table.{Table}
+use Rattle.core_lanes.specs.declared.queue.SiblingQueue.{Ghosts}
+use Rattle.core_lanes.specs.declared.lane.Lane.{Lane}
+use Rattle.core_lanes.specs.declared.lanes.Core.{Core}
+use Rattle.core_lanes.specs.Queued.{behind, MaySearch}
+use Rattle.core_lanes.specs.Lanes.{lane_state, Agree}
+use Rattle.core_lanes.proofs.Stays.{lane_at, queue_at, policies_of, found_in}
 use Rattle.core_lanes.proofs.Queues.{is_of}
 use Rattle.cookie_steal.proofs.Enumerated.{IsLeft, to_go, left_first, left_next, left_found, left_none, to_go_falls}
 use Rattle.cookie_steal.proofs.Candidates.{candidates, candidate_parts, no_two_tie}
-use Rattle.cookie_steal.proofs.Steals.{queue_at}
 use Rattle.cookie_steal.proofs.search.first_to_steal.Goals as goal
 
 -- the first of those that the thief may take, as its siblings stand in the room
@@ -24,6 +27,14 @@ from_room thief source idle from queued one two = sym (λ i. first_of (filter (m
 behind_it : (cookie source : ℕ) (tasks : List Task) (task : Task) → Contains (candidates cookie source tasks) task →
     first_of (behind task (candidates task.cookie source tasks)) ≡ first_of (behind task (candidates cookie source tasks))
 behind_it cookie source tasks task there = ap (λ n. first_of (behind task (candidates n source tasks))) (candidate_parts cookie source tasks task there).2
+
+-- the source's queue may be asked
+may_search : {Q : Type 0} {g : Ghosts Q} (core : Core Q g) (table : Table) (source : ℕ) → Agree (core, table) → (from : Lane Q) → source < length core.lanes.items →
+    from ≡ get_or core.lanes.items source from → MaySearch (g.holds from.queue) source table
+may_search core table source agree from within is = record {
+  policies = policies_of (core, table) agree;
+  holds = agree.held source from.queue (queue_at core.lanes.items source from within is);
+}
 
 pub loop-next-init : goal.loop-next-init
 loop-next-init g c =
@@ -49,13 +60,7 @@ returns-then-may_steal g c beside =
 pub first_with-next-requires : goal.first_with-next-requires
 first_with-next-requires g c = record {
   cookie = c.requires.cookie;
-  search =
-      let from = c.index-from.result.now in
-      let agree = c.requires.source.at.agree in
-      record {
-        policies = policies_of (c.args.core.now, c.args.table.now) agree;
-        holds = agree.held c.args.source from.queue (queue_at c.args.core.now.lanes.items c.args.source from c.requires.source.within c.index-from.ensures);
-      };
+  search = may_search c.args.core.now c.args.table.now c.args.source c.requires.source.at.agree c.index-from.result.now c.requires.source.within c.index-from.ensures;
 }
 
 pub next_with-next-requires : goal.next_with-next-requires
@@ -75,13 +80,7 @@ next_with-next-requires g c = record {
         let may = may_steal (lane_state c.index-idle.result.now) (lane_state c.index-from.result.now) in
         let left = subst (IsLeft goes_before (candidates core.cookie c.args.source tasks) may) c.in-Some.is c.loop-next.invariant in
         λ zero. c.requires.cookie (sym (candidate_parts core.cookie c.args.source tasks c.in-Some.task left.0).2 ∙ zero);
-    search =
-        let from = c.index-from.result.now in
-        let agree = c.requires.source.at.agree in
-        record {
-          policies = policies_of (c.args.core.now, c.args.table.now) agree;
-          holds = agree.held c.args.source from.queue (queue_at c.args.core.now.lanes.items c.args.source from c.requires.source.within c.index-from.ensures);
-        };
+    search = may_search c.args.core.now c.args.table.now c.args.source c.requires.source.at.agree c.index-from.result.now c.requires.source.within c.index-from.ensures;
   };
 }
 

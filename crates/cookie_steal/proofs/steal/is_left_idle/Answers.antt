@@ -15,6 +15,10 @@ none_queued : (first : Option Task) → is_none (option_map queued_of first) ≡
 none_queued None = refl
 none_queued (Some task) = refl
 
+twice : (b : Bool) → not (not b) ≡ b
+twice true = refl
+twice false = refl
+
 pub returns-then-is_none-2 : goal.returns-then-is_none-2
 returns-then-is_none-2 g c beside =
     let room = room_of beside (c.args.core.now, c.args.table.now) in
@@ -28,10 +32,7 @@ returns-then-is_none-2 g c beside =
           ap (λ (s : SiblingState). is_none s.run) at ∙ ap not w.is_none-then-is_none.ensures ∙ ap (λ b. not (not b)) (sym w.value-is ∙ c.if-is_none-2.true) in
           ap (λ n. not (n == 0)) c.count.ensures.count ∙ sym (λ i. none i && idles i && not (room.forced == 0))
       | else-is_none w ↦ let bad = sym (w.value-is ∙ w.if-is_none.false) ∙ c.if-is_none-2.true in absurd cc
-    ] where
-      twice : (b : Bool) → not (not b) ≡ b
-      twice true = refl
-      twice false = refl
+    ]
 
 pub returns-else-is_none-2 : goal.returns-else-is_none-2
 returns-else-is_none-2 g c beside =
@@ -48,7 +49,4 @@ returns-else-is_none-2 g c beside =
       | else-is_none w ↦
           let some = empty ∙ w.if-is_none.false in
           c.if-is_none-2.false ∙ sym (λ i. some i && is_none (sibling_of room c.args.cpu).run && not (room.forced == 0))
-    ] where
-      twice : (b : Bool) → not (not b) ≡ b
-      twice true = refl
-      twice false = refl
+    ]
