@@ -32,86 +32,61 @@ use Rattle.task_table.specs.Table.{total_in}
 pub counted-reply-requires-clause-may : goal.counted-reply-requires-clause-may
 counted-reply-requires-clause-may g c =
     let a = c.self.inside in
-    let last = fold_of (opening_of a) a.entries.items in
-    let accounted : IsAccounted 255 (length a.entries.items) (account_of last) =
-    accounted-fold_of 255 (opening_of a) a.entries.items (omega arith) (omega (arith, c.self.invariant.playable.siblings.1)) c.self.invariant.events in
-    let fold = c.self.invariant.fold in
-    let folds = folds_of a c.self.invariant in
+    let is = c.self.invariant in
+    let opening = opening_of a in
+    let past = a.entries.items in
+    let tasks = is.playable.few_tasks in
+    let most = is.playable.task_limit.1 in
+    let few : length past ≤ 100256 = omega (arith, a.entries.ok.0, is.few_entries, most_entries-le a.scenario.value is.playable) in
+    let living : length a.state.tasks.tasks ≤ 256 = omega (arith, ap (λ (room : RoomState). length room.tasks) is.fold, few-fold_of opening past tasks, most) in
+    let clock : a.state.clock ≤ 100256 * 1000000000 = omega (arith, is.slow, few) in
+    let legal = subst (IsLegal opening) (sym is.history) (IsLegal-history_of opening _) in
+    let folds = folds_of a is in
+    let accounted : IsAccounted 255 (length past) (account_of (fold_of opening past)) = accounted-fold_of 255 opening past (omega arith) (omega (arith, is.playable.siblings.1)) is.events in
     record {
-      event = subst (λ count. IsEvent count c.args.event) (sym c.self.invariant.siblings) (subst (λ (m : Machine). IsEvent m.opening.scenario.siblings c.args.event) (sym c.self.view_is) c.requires.event);
+      event = subst (λ count. IsEvent count c.args.event) (sym is.siblings) (subst (λ (m : Machine). IsEvent m.opening.scenario.siblings c.args.event) (sym c.self.view_is) c.requires.event);
       ready = record {
-        sound = c.self.invariant.sound;
+        sound = is.sound;
         time = record {
-          entries = length a.entries.items;
-          few = omega (arith, a.entries.ok.0, c.self.invariant.few_entries, most_entries-le a.scenario.value c.self.invariant.playable);
-          timely = λ intervals. subst (λ (room : RoomState). IsTimely (length a.entries.items) room)
-              (sym (ap (λ (room : RoomState). let other : RoomState = record room { intervals = intervals } in other) c.self.invariant.fold))
-              (timely_with intervals (length a.entries.items) (fold_of (opening_of a) a.entries.items) (timely-fold_of (opening_of a) a.entries.items));
-          clock = omega (arith, c.self.invariant.slow, a.entries.ok.0, c.self.invariant.few_entries, most_entries-le a.scenario.value c.self.invariant.playable);
+          entries = length past;
+          few = omega (arith, few);
+          timely = λ intervals. subst (λ (room : RoomState). IsTimely (length past) room)
+              (sym (ap (λ (room : RoomState). let other : RoomState = record room { intervals = intervals } in other) is.fold))
+              (timely_with intervals (length past) (fold_of opening past) (timely-fold_of opening past));
+          clock = omega (arith, clock);
         };
         paid = record {
-          clock = omega (arith, c.self.invariant.slow, a.entries.ok.0, c.self.invariant.few_entries, most_entries-le a.scenario.value c.self.invariant.playable);
-          started = subst (λ (r : RoomState). charged_up_to (account_of r) ≤ r.clock) (sym fold) accounted.started;
-          intervals = omega (
-            arith,
-            accounted.intervals,
-            ap (λ (numbers : Numbers). numbers.intervals) c.self.invariant.numbers,
-            a.entries.ok.0,
-            c.self.invariant.few_entries,
-            most_entries-le a.scenario.value c.self.invariant.playable,
-          );
-          totals = λ pid. subst (λ (r : RoomState). total_in a.state.tasks pid ≤ 255 * charged_up_to (account_of r)) (sym fold)
-              (omega (arith, total_kept (opening_of a) a.state a.entries.items pid folds, accounted.totals pid));
+          clock = omega (arith, clock);
+          started = subst (λ (r : RoomState). charged_up_to (account_of r) ≤ r.clock) (sym is.fold) accounted.started;
+          intervals = omega (arith, accounted.intervals, ap (λ (numbers : Numbers). numbers.intervals) is.numbers, few);
+          totals = λ pid. subst (λ (r : RoomState). total_in a.state.tasks pid ≤ 255 * charged_up_to (account_of r)) (sym is.fold)
+              (omega (arith, total_kept opening a.state past pid folds, accounted.totals pid));
         };
-        own = own_run (opening_of a) a.state a.entries.items folds c.self.invariant.playable c.self.invariant.events
-            (subst (IsLegal (opening_of a)) (sym c.self.invariant.history) (IsLegal-history_of (opening_of a) _));
-        behind = behind_of (opening_of a) a.state a.entries.items folds c.self.invariant.siblings c.self.invariant.playable c.self.invariant.events
-            (subst (IsLegal (opening_of a)) (sym c.self.invariant.history) (IsLegal-history_of (opening_of a) _));
+        own = own_run opening a.state past folds is.playable is.events legal;
+        behind = behind_of opening a.state past folds is.siblings is.playable is.events legal;
         spares = record {
-          touches = omega (
-            arith,
-            task_number-ledger_of (opening_of a) a.entries.items c.self.invariant.playable.few_tasks c.self.invariant.playable.task_limit.1,
-            ap (λ (numbers : Numbers). numbers.task) c.self.invariant.numbers,
-            a.entries.ok.0,
-            c.self.invariant.few_entries,
-            most_entries-le a.scenario.value c.self.invariant.playable,
-            ap (λ (room : RoomState). length room.tasks) c.self.invariant.fold,
-            few-fold_of (opening_of a) a.entries.items c.self.invariant.playable.few_tasks,
-            c.self.invariant.playable.task_limit.1,
-          );
-          stamps = omega (
-            arith,
-            next_stamp-fold_of (opening_of a) a.entries.items c.self.invariant.playable.few_tasks c.self.invariant.playable.task_limit.1,
-            ap (λ (room : RoomState). room.next_stamp) c.self.invariant.fold,
-            a.entries.ok.0,
-            c.self.invariant.few_entries,
-            most_entries-le a.scenario.value c.self.invariant.playable,
-            ap (λ (room : RoomState). length room.tasks) c.self.invariant.fold,
-            few-fold_of (opening_of a) a.entries.items c.self.invariant.playable.few_tasks,
-            c.self.invariant.playable.task_limit.1,
-          );
-          serial = omega (arith, next_cookie-fold_of (opening_of a) a.entries.items c.self.invariant.playable.few_tasks c.self.invariant.playable.task_limit.1, ap (λ (room : RoomState). room.next_cookie) c.self.invariant.fold, a.entries.ok.0);
-          pid = omega (arith, next_pid-fold_of (opening_of a) a.entries.items c.self.invariant.playable.few_tasks c.self.invariant.playable.task_limit.1, ap (λ (room : RoomState). room.next_pid) c.self.invariant.fold, a.entries.ok.0, first_pid-low a.scenario.value c.self.invariant.playable, c.self.invariant.few_entries, most_entries-le a.scenario.value c.self.invariant.playable);
+          touches = omega (arith, task_number-ledger_of opening past tasks most, ap (λ (numbers : Numbers). numbers.task) is.numbers, few, living, most);
+          stamps = omega (arith, next_stamp-fold_of opening past tasks most, ap (λ (room : RoomState). room.next_stamp) is.fold, few, living, most);
+          serial = omega (arith, next_cookie-fold_of opening past tasks most, ap (λ (room : RoomState). room.next_cookie) is.fold, a.entries.ok.0);
+          pid = omega (arith, next_pid-fold_of opening past tasks most, ap (λ (room : RoomState). room.next_pid) is.fold, first_pid-low a.scenario.value is.playable, few);
           ended = omega (
             arith,
-            ended-fold_of (opening_of a) a.entries.items c.self.invariant.playable.few_tasks c.self.invariant.playable.task_limit.1,
-            ap (λ (room : RoomState). length room.ended) c.self.invariant.fold,
+            ended-fold_of opening past tasks most,
+            ap (λ (room : RoomState). length room.ended) is.fold,
             length-map a.state.ended.items (λ (one : ℕ × ℕ). one.0),
             a.entries.ok.0,
             c.requires.spare,
             ap (λ (m : Machine). m.spare) c.self.view_is,
-            c.self.invariant.ends,
-            c.self.invariant.few_entries,
+            is.ends,
+            is.few_entries,
             a.state.ended.ok.0,
           );
-          places = All-weaker (λ (lane : Lane g.row.Q.Denot). lane.place ≤ length a.entries.items) (λ (lane : Lane g.row.Q.Denot). lane.place + 1 < 2 ^ 32)
-              (λ lane few. omega (arith, few, a.entries.ok.0, c.self.invariant.few_entries, most_entries-le a.scenario.value c.self.invariant.playable)) a.state.core.lanes.items
-              (of_states (λ (sibling : SiblingState). sibling.place ≤ length a.entries.items) a.state.core.lanes.items
-              (subst (λ (room : RoomState). All (λ (sibling : SiblingState). sibling.place ≤ length a.entries.items) room.siblings) (sym c.self.invariant.fold) (places-fold_of (opening_of a) a.entries.items)));
-          asked = All-weaker (λ (guard : GuardState). guard.asked < 2 ^ 43) (λ (guard : GuardState). guard.asked < 2 ^ 62) (λ guard is. omega (arith, is)) a.state.guards.guards.all
-              (subst (λ (room : RoomState). All (λ (guard : GuardState). guard.asked < 2 ^ 43) room.guards.all) (sym c.self.invariant.fold)
-              (asked-fold_of (opening_of a) a.entries.items c.self.invariant.playable.few_tasks c.self.invariant.playable.task_limit.1
-              (omega (arith, a.entries.ok.0, c.self.invariant.few_entries, most_entries-le a.scenario.value c.self.invariant.playable))));
+          places = All-weaker (λ (lane : Lane g.row.Q.Denot). lane.place ≤ length past) (λ (lane : Lane g.row.Q.Denot). lane.place + 1 < 2 ^ 32)
+              (λ lane low. omega (arith, low, few)) a.state.core.lanes.items
+              (of_states (λ (sibling : SiblingState). sibling.place ≤ length past) a.state.core.lanes.items
+              (subst (λ (room : RoomState). All (λ (sibling : SiblingState). sibling.place ≤ length past) room.siblings) (sym is.fold) (places-fold_of opening past)));
+          asked = All-weaker (λ (guard : GuardState). guard.asked < 2 ^ 43) (λ (guard : GuardState). guard.asked < 2 ^ 62) (λ guard low. omega (arith, low)) a.state.guards.guards.all
+              (subst (λ (room : RoomState). All (λ (guard : GuardState). guard.asked < 2 ^ 43) room.guards.all) (sym is.fold) (asked-fold_of opening past tasks most (omega (arith, few))));
         };
       };
     }
