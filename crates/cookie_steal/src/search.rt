@@ -3,7 +3,7 @@
 ghost use Rattle.std.specs.Prelude.{◌≡◌, ◌≢◌, filter};
 ghost use Rattle.cs_types.specs.Room.{sibling_of};
 ghost use Rattle.cs_types.specs.Order.{first_of};
-ghost use Rattle.cs_types.specs.Selection.{is_run, queued_with};
+ghost use Rattle.cs_types.specs.Selection.{queued_with};
 ghost use Rattle.cs_types.specs.Steal.{may_steal, stolen};
 ghost use Rattle.core_lanes.specs.Lanes.{Beside, lane_state, room_of};
 ghost use Rattle.cookie_steal.specs.Tries.{IsSourceOf};

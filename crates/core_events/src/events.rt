@@ -3,7 +3,7 @@
 ghost use Rattle.std.specs.Prelude.{◌≡◌, ◌<◌, length};
 ghost use Rattle.cs_types.specs.Step.{child_at_home, requeue, with_policy};
 ghost use Rattle.task_table.specs.Table.{Table};
-ghost use Rattle.core_lanes.specs.Lanes.{Beside, at, room_of};
+ghost use Rattle.core_lanes.specs.Lanes.{Beside, room_of};
 ghost use Rattle.core_clock.specs.Moments.{MayQueue, TouchesAt};
 ghost use Rattle.cookie_steal.specs.Tries.{reply_of as steal_reply};
 ghost use Rattle.cpu_hotplug.specs.Hotplugs.{reply_of as hotplug_reply};

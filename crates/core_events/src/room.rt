@@ -1,7 +1,7 @@
 //! The machine over any queue of a sibling: its scenario, the state of the core and every entry. It is a file of
 //! its own so that nothing else reads how a machine keeps these.
 
-ghost use Rattle.std.specs.Prelude.{◌≡◌, ◌+◌, ◌*◌, ◌<◌, [], List, length, IfOk};
+ghost use Rattle.std.specs.Prelude.{◌≡◌, ◌+◌, ◌*◌, ◌<◌, List, length, IfOk};
 ghost use Rattle.cs_types.specs.Scenario.{IsPlayable};
 ghost use Rattle.cs_types.specs.Room.{RoomState, Interval};
 ghost use Rattle.cs_types.specs.View.{task_after, task_view, forced_of};
@@ -9,7 +9,6 @@ ghost use Rattle.core_tasks.specs.State.{room_with};
 ghost use Rattle.core_tasks.specs.Steps.{Makes};
 ghost use Rattle.ptrace_check.specs.Opened.{MayStart, HasStarted};
 ghost use Rattle.core_events.specs.Ready.{IsReadyFor};
-ghost use Rattle.cs_types.specs.Guards.{guards_on_bench};
 
 use crate::events::apply;
 use core_lanes::SiblingQueue;

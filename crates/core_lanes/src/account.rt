@@ -3,7 +3,7 @@
 
 ghost use Rattle.std.specs.Prelude.{◌≡◌, ℕ, ◌+◌, ◌^◌, ◌<◌, [], length, find, All, IsSome, IfSome};
 ghost use Rattle.cs_types.specs.Room.{has_pid};
-ghost use Rattle.cs_types.specs.Accounting.{charged, charge};
+ghost use Rattle.cs_types.specs.Accounting.{charged};
 ghost use Rattle.task_table.specs.Table.{total_in, IsSound as IsTable};
 ghost use Rattle.core_lanes.specs.Lanes.{Beside, room_of};
 ghost use Rattle.core_lanes.specs.Account.{charged_at, MayOwe, Owes};

@@ -11,7 +11,7 @@ ghost use Rattle.cs_types.specs.Step.{run_idle};
 ghost use Rattle.cs_types.specs.Steal.{set_place};
 ghost use Rattle.cs_types.specs.Queueing.{enqueue, dequeue, moved_to};
 ghost use Rattle.task_table.specs.Table.{Table, IsSound as IsTable};
-ghost use Rattle.core_lanes.specs.Queued.{IsOf, queued_among, mover_of, AreTold, given_cookie, given_vtime, is_alike};
+ghost use Rattle.core_lanes.specs.Queued.{IsOf, queued_among, mover_of, AreTold, given_cookie, given_vtime};
 
 use crate::lane::Lane;
 use crate::order::is_alike;

@@ -1,10 +1,10 @@
 //! How a seat lets others go first, comes to its turn, makes a step in the room, and passes the turn on.
 
-ghost use Rattle.std.specs.Prelude.{◌≡◌, ℕ, ◌+◌, ◌<◌, ◌++◌, [], ◌∷◌, length, slice_get, Some};
+ghost use Rattle.std.specs.Prelude.{◌≡◌, ℕ, ◌<◌, [], ◌∷◌, length, slice_get, Some};
 ghost use Rattle.cs_types.specs.Scenario.{IsEvent};
 ghost use Rattle.core_lock.specs.declared.view.Progress.{Progress};
 ghost use Rattle.core_lock.specs.declared.view.Beginning.{Beginning};
-ghost use Rattle.core_lock.specs.declared.view.View.TheVariants.{Idle, Waiting, Holding};
+ghost use Rattle.core_lock.specs.declared.view.View.TheVariants.{Idle, Waiting};
 ghost use Rattle.core_lock.specs.Lists.{list_at};
 ghost use Rattle.core_lock.specs.Board.{HasTurn, HasMade};
 

@@ -1,7 +1,7 @@
 //! What a schedule leaves for later: whether the sibling is to try to steal. It is a file of its own since
 //! every schedule ends with it.
 
-ghost use Rattle.std.specs.Prelude.{◌≡◌, ◌<◌, length, if◌then◌else◌};
+ghost use Rattle.std.specs.Prelude.{◌≡◌, if◌then◌else◌};
 ghost use Rattle.cs_types.specs.Selection.{is_to_steal};
 ghost use Rattle.cs_types.specs.Steal.{set_place};
 ghost use Rattle.core_lanes.specs.Lanes.{Beside, room_of, AgreesAt};

@@ -1,7 +1,7 @@
 //! The state of the core, and how it starts. It is a file of its own so that each event has its whole contract,
 //! whatever the machine keeps beside.
 
-ghost use Rattle.std.specs.Prelude.{◌≡◌, length, IfOk};
+ghost use Rattle.std.specs.Prelude.{IfOk};
 ghost use Rattle.ptrace_check.specs.Opened.{MayStart, opened};
 
 use crate::start::{core_and_tasks, first_pid};

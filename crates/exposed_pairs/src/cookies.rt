@@ -1,7 +1,6 @@
 //! The cookies of the tasks that run.
 
 ghost use Rattle.std.specs.Prelude.{◌≡◌, ◌≢◌, ℕ, ◌≤◌, length, AllPairs};
-ghost use Rattle.arrayvec.specs.ArrayVec.{array_vec_len};
 ghost use Rattle.cs_types.specs.Scenario.{IsPlayable};
 ghost use Rattle.cs_types.specs.History.{fold_of};
 ghost use Rattle.exposed_pairs.specs.Pairs.{runs_cookie};

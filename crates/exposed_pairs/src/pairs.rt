@@ -1,6 +1,6 @@
 //! The times of the pairs, as a run goes on.
 
-ghost use Rattle.std.specs.Prelude.{◌≡◌, ℕ, ◌+◌, ◌^◌, ◌<◌, ◌≤◌, [], ◌∷◌, ◌++◌, length, sum_by, IfOk};
+ghost use Rattle.std.specs.Prelude.{◌≡◌, ◌+◌, ◌^◌, ◌<◌, ◌≤◌, [], ◌∷◌, ◌++◌, length, sum_by, IfOk};
 ghost use Rattle.cs_types.specs.declared.reply.Entry.{Entry};
 ghost use Rattle.cs_types.specs.Scenario.{IsEvent, IsPlayable};
 ghost use Rattle.cs_types.specs.History.{AreEvents};

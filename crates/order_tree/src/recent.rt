@@ -7,7 +7,7 @@ ghost use Rattle.std.specs.FinMap as map;
 ghost use Rattle.cs_types.specs.Comparisons.{most_comparisons};
 ghost use Rattle.order_tree.specs.Anew.{rekeyed};
 ghost use Rattle.order_tree.specs.Order.{key_cmp, stamped, first_of, first_from, next_of};
-ghost use Rattle.order_tree.specs.Recent.{lesser, reaching, is_at};
+ghost use Rattle.order_tree.specs.Recent.{reaching, is_at};
 
 use crate::key::Key;
 use crate::movers::Movers;

@@ -1,6 +1,6 @@
 //! The scenario of a seed.
 
-ghost use Rattle.std.specs.Prelude.{◌≡◌, ◌+◌, ◌<◌, IfOk};
+ghost use Rattle.std.specs.Prelude.{◌≡◌, ◌<◌, IfOk};
 ghost use Rattle.cs_types.specs.Scenario.{IsValid};
 ghost use Rattle.room_drill.specs.Draws.{in_turn};
 ghost use Rattle.room_drill.specs.Drill.{drawn_task, drawn_step, drill_scenario};

@@ -2,8 +2,6 @@
 //! Two siblings meet at a gate that neither passes alone, so a body that runs the actors one after another does
 //! not get through it.
 
-ghost use Rattle.std.specs.Prelude.{◌≡◌};
-
 use crate::commands::{run_over_trees, sink_of, source_of, words_of};
 use crate::examples::opened;
 use crate::passes::expect_lines;

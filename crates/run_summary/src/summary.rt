@@ -1,7 +1,7 @@
 //! The parts of the summary, beside one another. One more of them is a field, a line in `open` and in `before`, and a
 //! clause of `ArePartsOf`.
 
-ghost use Rattle.std.specs.Prelude.{◌≡◌, ◌+◌, ◌*◌, ◌^◌, ◌<◌, ◌≤◌, [], ◌∷◌, ◌++◌, ℕ, true, length, sum_by, All, IfOk, slice_index_or};
+ghost use Rattle.std.specs.Prelude.{◌≡◌, ◌+◌, ◌*◌, ◌^◌, ◌<◌, ◌≤◌, [], ◌∷◌, ◌++◌, true, length, sum_by, All, IfOk, slice_index_or};
 ghost use Rattle.cs_types.specs.declared.reply.Entry.{Entry};
 ghost use Rattle.cs_types.specs.Scenario.{IsEvent, IsPlayable};
 ghost use Rattle.cs_types.specs.Room.{Opening};
@@ -9,8 +9,7 @@ ghost use Rattle.cs_types.specs.History.{fold_of, AreEvents};
 ghost use Rattle.exposed_pairs.specs.Pairs.{most_rows};
 ghost use Rattle.task_times.specs.declared.times.TaskTimes.{TaskTimes};
 ghost use Rattle.task_times.specs.Living.{lives};
-ghost use Rattle.task_times.specs.TaskSums.{all_charged, lived, sums_so_far, sums_of};
-ghost use Rattle.run_summary.specs.Replies.{replies_of};
+ghost use Rattle.task_times.specs.TaskSums.{all_charged, lived};
 ghost use Rattle.run_summary.specs.Summaries.{ArePartsOf, IsSummaryOf};
 
 use crate::replies::ReplyCounts;

@@ -1,16 +1,16 @@
 -- Lines: how the guards go on by one teach line.
-use Rattle.std.proofs.Common.{◌≡◌, ◌≢◌, ℕ, zero, suc, ◌+◌, ◌<◌, ◌≤◌, Bool, true, false, cond, not, List, [], ◌∷◌, ◌++◌, map, length, refl, sym, ap, ◌∙◌, subst, arith, eqb, ltb, Option, Some, None}
-use Rattle.std.specs.Prelude.{filter, ◌==◌, nat_lt, IsTrue}
+use Rattle.std.proofs.Common.{◌≡◌, ◌≢◌, ℕ, zero, suc, ◌+◌, ◌<◌, ◌≤◌, cond, List, [], ◌∷◌, ◌++◌, map, length, refl, sym, ap, ◌∙◌, subst, arith}
+use Rattle.std.specs.Prelude.{filter, ◌==◌}
 use Rattle.std.specs.List.{range_with_len}
 use Rattle.std.proofs.Math.ListN.{get_or, set}
 use Rattle.std.proofs.lemmas.Bool.{ne_eqb, eq-eqb}
-use Rattle.std.proofs.lemmas.List.{append-nil, append_assoc}
+use Rattle.std.proofs.lemmas.List.{append-nil}
 use Rattle.std.proofs.lemmas.List.Elements.{filter-append}
 use Rattle.std.proofs.lemmas.List.{map-append}
 use Rattle.std.proofs.lemmas.List.FromFn.{get_or-map-range_with_len, length-map-range_with_len}
 use Rattle.cs_types.specs.declared.scenario.Teach.{Teach}
-use Rattle.cs_types.specs.declared.view.GuardPlace.TheVariants.{Bench, Dropped}
-use Rattle.cs_types.specs.Guards.{GuardState, GuardList, no_guard, guard_of, with_guard, taught, on_bench, guards_on_bench, is_bench}
+use Rattle.cs_types.specs.declared.view.GuardPlace.TheVariants.{Bench}
+use Rattle.cs_types.specs.Guards.{GuardState, GuardList, no_guard, guard_of, with_guard, taught, on_bench, guards_on_bench}
 
 map_alike : {X : Type 0} (f g : ℕ → X) (start n : ℕ) → ((m : ℕ) → start ≤ m → f m ≡ g m) → map f (range_with_len start n) ≡ map g (range_with_len start n)
 map_alike f g start zero each = refl

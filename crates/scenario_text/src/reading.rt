@@ -6,7 +6,7 @@ ghost use Rattle.scenario_text.specs.Faults.{lines_in, IsFirstBad};
 ghost use Rattle.scenario_text.specs.Reader.{IsTextOf, HasNoScenario, HasOneScenario, Tells};
 ghost use Rattle.scenario_text.specs.Reading.{Takes, contents, HasFewLines, next_of, IsHead, head_lines, AreGood, ReadsPlan, ReadsLines};
 
-use crate::fault::{BadKind, ReadFault, on_line};
+use crate::fault::{BadKind, ReadFault};
 use crate::head::{Head, next_head};
 use crate::line::{ScenarioLine, parse_line};
 use crate::lines::Lines;

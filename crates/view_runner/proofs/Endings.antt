@@ -1,13 +1,12 @@
 -- Endings: how the command ends, status by status.
 use Rattle.std.proofs.Common.{◌≡◌, ◌∙◌, sym, refl, ℕ, ◌-◌, ◌^◌, ◌<◌, List, subst, inl, inr, arith}
-use Rattle.std.specs.Prelude.{◌⊎◌, ◌↔◌, ◌≤◌, Option, Some, None, IfSome, Result, Ok, Err}
+use Rattle.std.specs.Prelude.{◌↔◌, ◌≤◌, Option, Some, None, IfSome, Result, Ok, Err}
 use Rattle.cs_types.specs.declared.event.Step.{Step}
 use Rattle.cs_types.specs.declared.scenario.Scenario.{Scenario}
 use Rattle.cs_types.specs.Room.{Opening}
 use Rattle.cs_types.specs.History.{file, history_of}
 use Rattle.cs_types.specs.Drain.{IsDrained}
 use Rattle.cs_types.proofs.Drains.{drained_alone}
-use Rattle.cs_outside.specs.Device.{Rose}
 use Rattle.run_summary.specs.Summaries.{Summary}
 use Rattle.scenario_input.specs.declared.stop.Stop.{Stop}
 use Rattle.scenario_input.specs.declared.stop.Stop.TheVariants.{TooLong}
@@ -19,7 +18,7 @@ use Rattle.scenario_input.specs.declared.status.Status.TheVariants as status
 use Rattle.scenario_input.specs.Stop.{status_of}
 use Rattle.scenario_input.proofs.Stops.{stop_not_done, stop_not_words, stop_not_write}
 use Rattle.scenario_runner.specs.Outcomes.{opened_with, IsReplayHistory}
-use Rattle.scenario_runner.specs.Ends.{Used, IsFaultless}
+use Rattle.scenario_runner.specs.Ends.{Used}
 use Rattle.scenario_runner.proofs.Endings.{HasRead, ends_stopped, ends_short}
 use Rattle.view_runner.specs.Ends.{IsTaken, IsTimed, EndsAsSummary, EndsAsShown}
 use Rattle.scenario_runner.specs.Written.{IsWritten}

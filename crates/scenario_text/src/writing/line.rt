@@ -1,7 +1,7 @@
 //! A line while it is put together. It lies on the stack and can take the longest entry, so it
 //! takes no memory and cannot fail, and a sink is given it whole.
 
-ghost use Rattle.std.specs.Prelude.{◌≡◌, ◌+◌, ◌<◌, ◌≤◌, [], ◌∷◌, ◌++◌, length, codes, decimal};
+ghost use Rattle.std.specs.Prelude.{◌≡◌, ◌+◌, ◌<◌, ◌≤◌, [], ◌∷◌, ◌++◌, length, decimal};
 ghost use Rattle.scenario_text.specs.Words.{policy_word, made_words, actor_word, ask_words, child_word, event_words, deed_words, reply_words, pick_words, kind_word, run_word};
 ghost use Rattle.scenario_text.specs.Text.{line_bytes, spaced, entry_text};
 

@@ -1,15 +1,15 @@
-use Rattle.std.proofs.Common.{◌≡◌, ℕ, ◌<◌, ◌≤◌, Bool, true, false, cond, not, List, [], ◌∷◌, ◌++◌, length, refl, sym, ap, ◌∙◌, subst, arith, inl, inr, Option, Some, None}
-use Rattle.std.specs.Prelude.{nat_lt, IsTrue, ◌==◌, slice_index_or, ◌⊎◌}
-use Rattle.std.proofs.lemmas.Bool.{cases_Bool, lt-ltb, le-ltb, ltb-true, ltb-false, ne_eqb, eq-eqb}
+use Rattle.std.proofs.Common.{◌≡◌, ℕ, Bool, true, false, cond, not, List, [], ◌∷◌, ◌++◌, length, refl, sym, ap, ◌∙◌, subst, arith, inl, inr, Option, Some, None}
+use Rattle.std.specs.Prelude.{nat_lt, IsTrue, ◌==◌, slice_index_or}
+use Rattle.std.proofs.lemmas.Bool.{cases_Bool, ltb-true, ltb-false, ne_eqb, eq-eqb}
 use Rattle.cs_types.specs.declared.scenario.Teach.{Teach}
-use Rattle.cs_types.specs.Guards.{GuardState, GuardList, guard_of, with_guard, taught, guards_on_bench, is_bench, on_bench}
+use Rattle.cs_types.specs.Guards.{GuardState, GuardList, guard_of, with_guard, taught, guards_on_bench, is_bench}
 use Rattle.ptrace_check.specs.Answers.{IsTeachAnswer, with_answer}
 use Rattle.ptrace_check.specs.Guards.{cap_of}
 use Rattle.ptrace_check.specs.declared.answer.TeachAnswer.{TeachAnswer}
 use Rattle.ptrace_check.specs.declared.answer.TeachAnswer.TheVariants as answer
 use Rattle.scenario_input.specs.declared.stop.GuardKind.{GuardKind}
 use Rattle.scenario_input.specs.declared.stop.GuardKind.TheVariants.{NoGuard, Full}
-use Rattle.scenario_input.specs.Teaching.{fault_of, noted, BadTeach, Teaches}
+use Rattle.scenario_input.specs.Teaching.{fault_of, noted}
 use Rattle.scenario_input.proofs.Lines.{guard_is, no_guard_is, guards_more}
 use Rattle.scenario_input.proofs.teaching.teach.Goals as goal
 

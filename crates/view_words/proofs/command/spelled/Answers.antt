@@ -1,8 +1,6 @@
 use Rattle.std.proofs.Common.{◌≡◌, ◌∙◌, sym, ap, [], ◌∷◌, map}
 use Rattle.std.specs.String.{string_bytes}
 use Rattle.clap.specs.Walk.{Text}
-use Rattle.view_words.specs.declared.command.Command.{Command}
-use Rattle.view_words.specs.Asks.{word_of}
 use Rattle.view_words.proofs.Spelled.{one_word}
 use Rattle.view_words.proofs.command.spelled.Goals as goal
 
