@@ -1,9 +1,10 @@
 //! How a command ends.
 
-ghost use Rattle.std.specs.Prelude.{◌≡◌};
+ghost use Rattle.std.specs.Prelude.{◌≡◌, OnOk, OnErr};
 ghost use Rattle.scenario_input.specs.Exit.{exit_code};
 
 use crate::stop::GuardKind;
+use cs_outside::Failed;
 use scenario_text::BadKind;
 use thiserror::Error;
 
@@ -41,6 +42,17 @@ pub enum Status {
 }
 
 impl Status {
+    /// How a command ended whose output was written, or whose sink failed at that.
+    pub fn of_writing(written: Result<(), Failed>) -> Status
+        ensures done { OnOk written (result ≡ Status.Done) }
+        ensures fault { OnErr written (result ≡ Status.WriteFault) }
+    {
+        match written {
+            Ok(()) => Status::Done,
+            Err(_) => Status::WriteFault,
+        }
+    }
+
     /// The exit status of a program whose command ended so, 0 to 5.
     pub fn exit_code(self) -> u8
         ensures { result ≡ exit_code self }

@@ -38,10 +38,7 @@ fn write_summary<R: Room, K: Sink>(seed: u32, room: &R, sink: &mut K) -> Status
     ensures { IsWritten (record { bytes = K.written; faults = K.faults; before = sink.old; after = sink.new })
         (summary_text seed (R.opening room.now) (R.history room.now)) result }
 {
-    match summary(seed, room, sink) {
-        Ok(()) => Status::Done,
-        Err(_) => Status::WriteFault,
-    }
+    Status::of_writing(summary(seed, room, sink))
 }
 
 /// Makes the steps, in their order, in a room that has made none, and then the entries of the end, and writes the summary

@@ -64,10 +64,7 @@ fn write_output<R: Room, K: Sink>(room: &R, sink: &mut K) -> Status
     ensures { WritesOutput (record { bytes = K.written; faults = K.faults; before = sink.old; after = sink.new })
         (R.opening room.now) (R.history room.now) result }
 {
-    match output(room, sink) {
-        Ok(()) => Status::Done,
-        Err(_) => Status::WriteFault,
-    }
+    Status::of_writing(output(room, sink))
 }
 
 /// Makes the steps, in their order, in a room that has made none, and then the entries of the end, and writes the line of

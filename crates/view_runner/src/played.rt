@@ -21,10 +21,7 @@ fn write_summary<K: Sink>(told: &RunSummary, sink: &mut K) -> Status
     ensures { IsWritten (record { bytes = K.written; faults = K.faults; before = sink.old; after = sink.new })
         (summary_text told.now) result }
 {
-    match summary(told, sink) {
-        Ok(()) => Status::Done,
-        Err(_) => Status::WriteFault,
-    }
+    Status::of_writing(summary(told, sink))
 }
 
 /// Makes the steps, in their order, in a room that has made none, and then the entries of the end, and writes the summary
