@@ -1,6 +1,5 @@
 -- Rows: the lines of tasks and cookies, and which of them are left at an index of their loop.
-use Rattle.std.proofs.Common.{◌≡◌, ◌∙◌, ℕ, suc, ◌+◌, ◌<◌, ◌≤◌, Bool, true, false, cond, List, [], ◌∷◌, ◌++◌, length, drop, get_or, sym, ap, subst, append_assoc, arith, Option}
-use Rattle.std.specs.Prelude.{codes}
+use Rattle.std.proofs.Common.{◌≡◌, ◌∙◌, ℕ, suc, ◌+◌, ◌<◌, ◌≤◌, Bool, true, false, cond, List, [], ◌∷◌, ◌++◌, length, drop, get_or, sym, ap, subst, arith, Option}
 use Rattle.std.specs.List.{flat_map, enumerate_from}
 use Rattle.std.proofs.Math.Seq.{drop-cons}
 use Rattle.std.proofs.lemmas.Bool.{cond-true, cond-false}
@@ -13,18 +12,6 @@ use Rattle.scenario_text.specs.Words.{Word}
 use Rattle.scenario_text.specs.Text.{line}
 use Rattle.times_report.specs.TaskLines.{lines_of_tasks, lines_of_cookies, task_lines, task_text}
 use Rattle.cs_outside.proofs.Reached.{AreLeft, all_left, none_left, whole_prefix, line_more, line_prefix, part_more, part_prefix}
-
-pub task_line_text : (pid ran waited slept charged cookie : Word) →
-    ((((((((((((codes "task " ++ pid) ++ codes " ran ") ++ ran) ++ codes " waited ") ++ waited) ++ codes " slept ") ++ slept)
-    ++ codes " charged ") ++ charged) ++ codes " cookie ") ++ cookie) ++ codes "\n")
-    ≡ line (codes "task" ∷ pid ∷ codes "ran" ∷ ran ∷ codes "waited" ∷ waited ∷ codes "slept" ∷ slept ∷ codes "charged" ∷ charged ∷ codes "cookie" ∷ cookie ∷ [])
-task_line_text pid ran waited slept charged cookie = simp append_assoc
-
-pub cookie_line_text : (cookie ran waited slept charged : Word) →
-    ((((((((((codes "cookie " ++ cookie) ++ codes " ran ") ++ ran) ++ codes " waited ") ++ waited) ++ codes " slept ") ++ slept)
-    ++ codes " charged ") ++ charged) ++ codes "\n")
-    ≡ line (codes "cookie" ∷ cookie ∷ codes "ran" ∷ ran ∷ codes "waited" ∷ waited ∷ codes "slept" ∷ slept ∷ codes "charged" ∷ charged ∷ [])
-cookie_line_text cookie ran waited slept charged = simp append_assoc
 
 -- ---- a line that is written where a test holds
 

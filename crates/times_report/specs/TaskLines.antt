@@ -1,6 +1,7 @@
 -- TaskLines: what is told of the tasks and the cookies of a run, line by line. All times are in ns.
 use Rattle.std.specs.Prelude.{ℕ, nat_lt, ◌||◌, if◌then◌else◌, List, [], ◌∷◌, ◌++◌, codes, decimal}
 use Rattle.std.specs.List.{flat_map, enumerate_from}
+use Rattle.task_times.specs.declared.doing_times.DoingTimes.{DoingTimes}
 use Rattle.task_times.specs.declared.times.TaskTimes.{TaskTimes}
 use Rattle.task_times.specs.declared.times.CookieTimes.{CookieTimes}
 use Rattle.task_times.specs.TaskSums.{TaskSums, lived, had}
@@ -9,19 +10,21 @@ use Rattle.scenario_text.specs.Text.{line}
 
 -- ---- the words of a line
 
+-- `ran` T `waited` T `slept` T: for how long something ran, waited and slept
+abbrev pub doing_words : DoingTimes → List Word
+doing_words times = codes "ran" ∷ decimal times.ran ∷ codes "waited" ∷ decimal times.waited ∷ codes "slept" ∷ decimal times.slept ∷ []
+
 -- `task` PID `ran` T `waited` T `slept` T `charged` T `cookie` C: for how long a sibling ran the task, it was queued and none
 -- ran it, and it was not queued; what it was charged for forced idle; and the cookie for which that counts, 0 for none
 abbrev pub task_words : ℕ → TaskTimes → List Word
 task_words pid times =
-    codes "task" ∷ decimal pid ∷ codes "ran" ∷ decimal times.by_doing.ran ∷ codes "waited" ∷ decimal times.by_doing.waited
-    ∷ codes "slept" ∷ decimal times.by_doing.slept ∷ codes "charged" ∷ decimal times.charged ∷ codes "cookie" ∷ decimal times.cookie ∷ []
+    codes "task" ∷ decimal pid ∷ doing_words times.by_doing ++ codes "charged" ∷ decimal times.charged ∷ codes "cookie" ∷ decimal times.cookie ∷ []
 
 -- `cookie` C `ran` T `waited` T `slept` T `charged` T: the same of the tasks that had the cookie, 0 for none, added over these
 -- tasks; and what the tasks were charged that count for it
 abbrev pub cookie_words : ℕ → CookieTimes → List Word
 cookie_words cookie times =
-    codes "cookie" ∷ decimal cookie ∷ codes "ran" ∷ decimal times.by_doing.ran ∷ codes "waited" ∷ decimal times.by_doing.waited
-    ∷ codes "slept" ∷ decimal times.by_doing.slept ∷ codes "charged" ∷ decimal times.charged ∷ []
+    codes "cookie" ∷ decimal cookie ∷ doing_words times.by_doing ++ codes "charged" ∷ decimal times.charged ∷ []
 
 -- ---- the lines
 

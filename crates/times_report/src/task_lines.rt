@@ -1,31 +1,34 @@
 //! The lines of the tasks and of the cookies. Each is put together without a sink, so that a sink gets it whole.
 
-ghost use Rattle.std.specs.Prelude.{◌≡◌, ◌^◌, ◌<◌, ◌≤◌, length, OnOk, OnErr};
+ghost use Rattle.std.specs.Prelude.{◌≡◌, ◌+◌, ◌^◌, ◌<◌, ◌≤◌, ◌∷◌, ◌++◌, length, OnOk, OnErr};
 ghost use Rattle.std.specs.List.{flat_map};
 ghost use Rattle.cs_outside.specs.Device.{appended, Rose, WritesPrefix};
-ghost use Rattle.scenario_text.specs.Text.{line};
+ghost use Rattle.scenario_text.specs.Text.{line, line_bytes, spaced};
 ghost use Rattle.times_report.specs.TaskLines as told;
 
 use cs_outside::{Failed, Sink, write_all};
 use scenario_text::Line;
-use task_times::{CookieTimes, RunTasks, TaskTimes};
+use task_times::{CookieTimes, DoingTimes, RunTasks, TaskTimes};
+
+/// Puts for how long something ran, waited and slept behind what is on the line.
+fn put_times(line: &mut Line, times: &DoingTimes)
+    requires { length line.old + 80 ≤ line_bytes }
+    ensures text { line.new ≡ line.old ++ 32 ∷ spaced (told.doing_words times.now) }
+    ensures longest { length line.new ≤ length line.old + 80 }
+{
+    line.named(" ran", times.ran);
+    line.named(" waited", times.waited);
+    line.named(" slept", times.slept);
+}
 
 fn task_line(pid: u32, times: &TaskTimes) -> Line
     ensures { result ≡ line (told.task_words pid times.now) }
 {
     let mut line = Line::new();
-    line.text("task ");
-    line.number(pid);
-    line.text(" ran ");
-    line.number(times.by_doing.ran);
-    line.text(" waited ");
-    line.number(times.by_doing.waited);
-    line.text(" slept ");
-    line.number(times.by_doing.slept);
-    line.text(" charged ");
-    line.number(times.charged);
-    line.text(" cookie ");
-    line.number(times.cookie);
+    line.named("task", pid);
+    put_times(&mut line, &times.by_doing);
+    line.named(" charged", times.charged);
+    line.named(" cookie", times.cookie);
     line.text("\n");
     line
 }
@@ -34,16 +37,9 @@ fn cookie_line(cookie: u32, times: &CookieTimes) -> Line
     ensures { result ≡ line (told.cookie_words cookie times.now) }
 {
     let mut line = Line::new();
-    line.text("cookie ");
-    line.number(cookie);
-    line.text(" ran ");
-    line.number(times.by_doing.ran);
-    line.text(" waited ");
-    line.number(times.by_doing.waited);
-    line.text(" slept ");
-    line.number(times.by_doing.slept);
-    line.text(" charged ");
-    line.number(times.charged);
+    line.named("cookie", cookie);
+    put_times(&mut line, &times.by_doing);
+    line.named(" charged", times.charged);
     line.text("\n");
     line
 }
