@@ -33,7 +33,7 @@ pub struct CoreRoom<Q: SiblingQueue, G: Guard> {
     scenario: Snapshot<Scenario>,
     /// How many siblings the core has, 1 to 16.
     siblings: u8,
-    /// How many guards were handed in, 0 to 16.
+    /// How many guards were handed in, 0 to 16. Clauses alone read it, as a part of what the machine began with.
     guards: u8,
     state: State<Q, G>,
     entries: Vec<Entry>,
