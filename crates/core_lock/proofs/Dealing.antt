@@ -22,7 +22,7 @@ use Rattle.core_lock.specs.declared.view.View.{View}
 use Rattle.core_lock.specs.declared.view.View.TheVariants.{Gone, Idle}
 use Rattle.core_lock.specs.Lists.{list_at, actor_of, HasNoList, AreLists, events_first, steps_in}
 use Rattle.core_lock.specs.Board.{fresh, Books, IsOwned, Knows, HasSlot, IsKept, first_view}
-use Rattle.core_lock.proofs.Keeping.{put, put_here, put_else, moved, moved_from, moved_else, seats_stay, knows_stays}
+use Rattle.core_lock.proofs.Keeping.{put, put_here, put_else, moved, moved_from, moved_else, seats_stay, knows_stays, owned_anew, kept_anew}
 
 -- what stands at a place of a list with one more at its end
 at_end : {V : Type 0} (views : List V) (last view : V) (seat : ℕ) → get_elem? (views ++ last ∷ []) seat ≡ some view →
@@ -91,15 +91,7 @@ module _ {R : Type 0} (opening : R → Opening) (history : R → History) (spare
       let mine : IsOwned begun.lists b seat 0 has = All-head (IsOwned begun.lists b seat 0) has rest known.1 in
       let rests : All (IsOwned begun.lists b seat 0) rest = All-tail (IsOwned begun.lists b seat 0) has rest known.1 in
       let owned : (other count : ℕ) (p : Progress) → p.number ≢ has.number → IsOwned begun.lists b other count p → IsOwned begun.lists now other count p =
-      λ other count p ne o. record {
-        number = o.number;
-        owner = put_else b.owner has.number new p.number ne ∙ o.owner;
-        made = o.made;
-        steps = o.steps;
-        seen = o.seen;
-        note = o.note;
-      }
-      in
+      λ other count p ne o. owned_anew now.owner other o (put_else b.owner has.number new p.number ne ∙ o.owner) in
       let views = set s.views seat (Idle from rest) in
       let stay = seats_stay (Knows begun now) s.views seat (Idle from rest) (
         known.0,
@@ -116,34 +108,14 @@ module _ {R : Type 0} (opening : R → Opening) (history : R → History) (spare
       view (k.views other view there))
       in
       let longs : length views ≡ new = Rattle.std.proofs.Common.length-set s.views seat (Idle from rest) in
-      record {
-        books = now;
-        words = k.words;
-        slot = k.slot;
-        behind = k.behind;
-        ahead = k.ahead;
-        busy = k.busy;
-        enough = k.enough;
-        fits = k.fits;
-        lists = k.lists;
-        as_many = k.as_many;
-        own = k.own;
-        no_other = k.no_other;
-        views = λ other view there. ⊎_elim (stay other view)
-            (λ (t : (other ≡ length views) × (Idle from (has ∷ []) ≡ view)).
-            subst (λ (z : ℕ × View R). Knows begun now z.0 z.1) (λ i. (sym (t.0 ∙ longs) i, t.1 i)) (
-              known.0,
-              All-cons (IsOwned begun.lists now new 0) has [] (record {
-                number = mine.number;
-                owner = put_here b.owner has.number new;
-                made = mine.made;
-                steps = mine.steps;
-                seen = mine.seen;
-                note = mine.note;
-              }) (All-nil (IsOwned begun.lists now new 0)),
-            ))
-            (at_end views (Idle from (has ∷ [])) view other there);
-      }
+      kept_anew k now.owner (views ++ Idle from (has ∷ []) ∷ [])
+      (λ other view there. ⊎_elim (stay other view)
+      (λ (t : (other ≡ length views) × (Idle from (has ∷ []) ≡ view)).
+      subst (λ (z : ℕ × View R). Knows begun now z.0 z.1) (λ i. (sym (t.0 ∙ longs) i, t.1 i)) (
+        known.0,
+        All-cons (IsOwned begun.lists now new 0) has [] (owned_anew now.owner new mine (put_here b.owner has.number new)) (All-nil (IsOwned begun.lists now new 0)),
+      ))
+      (at_end views (Idle from (has ∷ [])) view other there))
 
   -- the lists of two seats come to one
   pub gathers_lists : (seat : ℕ) (from : Beginning R) (all : List Progress) (other : ℕ) (from' : Beginning R) (more : List Progress) →
@@ -156,54 +128,25 @@ module _ {R : Type 0} (opening : R → Opening) (history : R → History) (spare
       let others = k.views other (Idle from' more) there' in
       -- what was any seat's but the other's stays its own
       let kept : (who count : ℕ) (p : Progress) → who ≢ other → IsOwned begun.lists b who count p → IsOwned begun.lists now who count p =
-      λ who count p ne o. record {
-        number = o.number;
-        owner = moved_else b.owner other seat p.number (λ e. ne (sym o.owner ∙ e)) ∙ o.owner;
-        made = o.made;
-        steps = o.steps;
-        seen = o.seen;
-        note = o.note;
-      }
-      in
+      λ who count p ne o. owned_anew now.owner who o (moved_else b.owner other seat p.number (λ e. ne (sym o.owner ∙ e)) ∙ o.owner) in
       let came : (p : Progress) → IsOwned begun.lists b other 0 p → IsOwned begun.lists now seat 0 p =
-      λ p o. record {
-        number = o.number;
-        owner = moved_from b.owner other seat p.number o.owner;
-        made = o.made;
-        steps = o.steps;
-        seen = o.seen;
-        note = o.note;
-      }
-      in
+      λ p o. owned_anew now.owner seat o (moved_from b.owner other seat p.number o.owner) in
       let both : Knows begun now seat (Idle from (all ++ more)) = (
         known.0,
         All-append (IsOwned begun.lists now seat 0) all more (All-weaker (IsOwned begun.lists b seat 0) (IsOwned begun.lists now seat 0) (λ p o. kept seat 0 p (λ e. apart (sym e)) o) all known.1)
             (All-weaker (IsOwned begun.lists b other 0) (IsOwned begun.lists now seat 0) came more others.1),
       )
       in
-      record {
-        books = now;
-        words = k.words;
-        slot = k.slot;
-        behind = k.behind;
-        ahead = k.ahead;
-        busy = k.busy;
-        enough = k.enough;
-        fits = k.fits;
-        lists = k.lists;
-        as_many = k.as_many;
-        own = k.own;
-        no_other = k.no_other;
-        views = seats_stay (Knows begun now) (set s.views seat (Idle from (all ++ more))) other Gone tt
-            (λ who view ne at'.
-            seats_stay (λ (j : ℕ) (v : View R). j ≢ other → Knows begun now j v) s.views seat (Idle from (all ++ more)) (λ _. both)
-            (λ j v _ here ne'.
-            knows_stays begun b now j (λ count p o. kept j count p ne' o)
-            (λ p t w. record { owned = kept j 1 p ne' w.owned; drew = w.drew; not_served = w.not_served; drawn = w.drawn; not_out = w.not_out })
-            (λ p t h. record { owned = kept j 1 p ne' h.owned; drew = h.drew; served = h.served; out = h.out; whole = h.whole })
-            v (k.views j v here))
-            who view at' ne);
-      }
+      kept_anew k now.owner (set (set s.views seat (Idle from (all ++ more))) other Gone)
+      (seats_stay (Knows begun now) (set s.views seat (Idle from (all ++ more))) other Gone tt
+      (λ who view ne at'.
+      seats_stay (λ (j : ℕ) (v : View R). j ≢ other → Knows begun now j v) s.views seat (Idle from (all ++ more)) (λ _. both)
+      (λ j v _ here ne'.
+      knows_stays begun b now j (λ count p o. kept j count p ne' o)
+      (λ p t w. record { owned = kept j 1 p ne' w.owned; drew = w.drew; not_served = w.not_served; drawn = w.drawn; not_out = w.not_out })
+      (λ p t h. record { owned = kept j 1 p ne' h.owned; drew = h.drew; served = h.served; out = h.out; whole = h.whole })
+      v (k.views j v here))
+      who view at' ne))
 
   -- What a pass has seen begins a history, and the entries of its actor are the steps that it made. It read no greater length.
   pub record IsIn (past : History) (has : Progress) : Type 0 where

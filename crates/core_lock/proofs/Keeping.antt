@@ -1,15 +1,19 @@
 -- Keeping: what a step of one seat leaves to the others.
-use Rattle.std.proofs.Common.{◌≡◌, ◌≢◌, ℕ, List, [], ◌∷◌, set, refl, sym, subst, ⊎_elim}
+use Rattle.std.proofs.Common.{◌≡◌, ◌≢◌, ℕ, List, [], ◌∷◌, set, refl, sym, subst, ⊎_elim, Option}
 use Rattle.std.proofs.lemmas.List.Elements.{All-weaker}
 use mathlib.Core.Option.{some}
 use native.Mathlib.Decide.{ℕ_discrete}
 use lib.ListN.{get_elem?}
+use Rattle.atomic_table.specs.Table.{State}
 use Rattle.atomic_table.proofs.Lists.{at_set}
+use Rattle.cs_types.specs.declared.event.Step.{Step}
+use Rattle.cs_types.specs.Room.{Opening}
+use Rattle.cs_types.specs.History.{History}
 use Rattle.core_lock.specs.declared.view.Progress.{Progress}
 use Rattle.core_lock.specs.declared.view.Beginning.{Beginning}
 use Rattle.core_lock.specs.declared.view.View.{View}
 use Rattle.core_lock.specs.declared.view.View.TheVariants.{Gone, Idle, Waiting, Holding}
-use Rattle.core_lock.specs.Board.{Books, IsOwned, IsWaiting, IsHolding, Knows}
+use Rattle.core_lock.specs.Board.{Books, IsOwned, IsWaiting, IsHolding, Knows, IsKept}
 
 -- ---- functions that are changed at one place
 
@@ -77,6 +81,32 @@ knows_stays begun books now seat owned waiting holding (Idle from all) known =
     (known.0, All-weaker (IsOwned begun.lists books seat 0) (IsOwned begun.lists now seat 0) (owned 0) all known.1)
 knows_stays begun books now seat owned waiting holding (Waiting from has ticket) known = (known.0, waiting has ticket known.1)
 knows_stays begun books now seat owned waiting holding (Holding from has ticket) known = (known.0, holding has ticket known.1)
+
+-- a list has another seat, and the rest of what is said of it is as it was
+pub owned_anew : {lists : List (List Step)} {books : Books} {seat count : ℕ} {has : Progress} (owner : ℕ → ℕ) (now : ℕ) → IsOwned lists books seat count has → owner has.number ≡ now →
+    IsOwned lists (record books { owner = owner }) now count has
+owned_anew owner now known is = record { number = known.number; owner = is; made = known.made; steps = known.steps; seen = known.seen; note = known.note }
+
+-- lists have other seats, and the rest of the rule is as it was
+pub kept_anew : {R : Type 0} {opening : R → Opening} {history : R → History} {spare : R → ℕ} {begun : Beginning R} {state : State (Option R) (View R)} (kept : IsKept opening history spare begun state) (owner : ℕ → ℕ) (views : List (View R)) →
+    ((seat : ℕ) (view : View R) → get_elem? views seat ≡ some view → Knows begun (record kept.books { owner = owner }) seat view) →
+    IsKept opening history spare begun (record state { views = views })
+kept_anew kept owner views known =
+    record {
+      books = record kept.books { owner = owner };
+      words = kept.words;
+      slot = kept.slot;
+      behind = kept.behind;
+      ahead = kept.ahead;
+      busy = kept.busy;
+      enough = kept.enough;
+      fits = kept.fits;
+      lists = kept.lists;
+      as_many = kept.as_many;
+      own = kept.own;
+      no_other = kept.no_other;
+      views = known;
+    }
 
 -- the parts of a view of one list
 abbrev pub parts_or : {R : Type 0} → Beginning R × Progress × ℕ → View R → Beginning R × Progress × ℕ

@@ -12,7 +12,7 @@ use Rattle.core_lock.specs.declared.view.Beginning.{Beginning}
 use Rattle.core_lock.specs.declared.view.View.{View}
 use Rattle.core_lock.specs.declared.view.View.TheVariants.{Idle}
 use Rattle.core_lock.specs.Board.{IsOwned, Knows, IsKept, noted}
-use Rattle.core_lock.proofs.Keeping.{seats_stay, parts_or}
+use Rattle.core_lock.proofs.Keeping.{seats_stay, kept_anew, parts_or}
 use Rattle.core_lock.proofs.Entries.{prefix-length}
 
 module _ {R : Type 0} (opening : R → Opening) (history : R → History) (spare : R → ℕ) (begun : Beginning R) where
@@ -29,32 +29,19 @@ module _ {R : Type 0} (opening : R → Opening) (history : R → History) (spare
       let known = k.views seat (Idle from (has ∷ [])) at in
       let mine : IsOwned begun.lists b seat 0 has = All-head (IsOwned begun.lists b seat 0) has [] known.1 in
       let now = with_note has (length b.past) in
-      record {
-        books = b;
-        words = k.words;
-        slot = k.slot;
-        behind = k.behind;
-        ahead = k.ahead;
-        busy = k.busy;
-        enough = k.enough;
-        fits = k.fits;
-        lists = k.lists;
-        as_many = k.as_many;
-        own = k.own;
-        no_other = k.no_other;
-        views = seats_stay (Knows begun b) s.views seat (Idle from (now ∷ [])) (
-          known.0,
-          All-cons (IsOwned begun.lists b seat 0) now [] (record {
-            number = mine.number;
-            owner = mine.owner;
-            made = mine.made;
-            steps = mine.steps;
-            seen = mine.seen;
-            note = omega arith;
-          }) (All-nil (IsOwned begun.lists b seat 0)),
-        )
-            (λ other view _ there. k.views other view there);
-      }
+      kept_anew k b.owner (set s.views seat (Idle from (now ∷ [])))
+      (seats_stay (Knows begun b) s.views seat (Idle from (now ∷ [])) (
+        known.0,
+        All-cons (IsOwned begun.lists b seat 0) now [] (record {
+          number = mine.number;
+          owner = mine.owner;
+          made = mine.made;
+          steps = mine.steps;
+          seen = mine.seen;
+          note = omega arith;
+        }) (All-nil (IsOwned begun.lists b seat 0)),
+      )
+      (λ other view _ there. k.views other view there))
 
   pub notes : (slots seat : ℕ) (from : Beginning R) (has : Progress) →
       Allows Rule slots seat (Idle from (has ∷ []), []) 1 (λ n. n) (noted (step slots 1 0 0 none) (Idle from (has ∷ []), []))
