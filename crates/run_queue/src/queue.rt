@@ -1,15 +1,15 @@
 //! The run queue: the queues of the classes, and beside them the tasks with cookies.
 
 ghost use Rattle.std.specs.Prelude as list;
-ghost use Rattle.std.specs.Prelude.{◌≡◌, ◌≢◌, ℕ, ◌+◌, ◌*◌, ◌<◌, ◌≤◌, ◌++◌, length, max, if◌then◌else◌, None, OnOk, OnErr, IfSome, IsTrue, List, All, IsPermutation};
+ghost use Rattle.std.specs.Prelude.{◌≡◌, ◌≢◌, ℕ, ◌+◌, ◌*◌, ◌<◌, ◌≤◌, ◌==◌, ◌&&◌, ◌++◌, length, max, if◌then◌else◌, None, OnOk, OnErr, IfSome, IsTrue, List, All, IsPermutation};
 ghost use Rattle.std.specs.FinMap as map;
 ghost use Rattle.std.specs.Option.{option_map};
 ghost use Rattle.cs_types.specs.declared.task.Task.{Task};
 ghost use Rattle.cs_types.specs.Comparisons.{most_comparisons};
-ghost use Rattle.cs_types.specs.Order.{fair_class, priority_of, first_of};
-ghost use Rattle.cs_types.specs.Queue.{IsRanked, seat_of, spot_of, queue_of, top_of, first_with, next_with, Seats, Spots, seat_cmp, spot_cmp};
+ghost use Rattle.cs_types.specs.Order.{fair_class, priority_of, first_of, goes_before};
+ghost use Rattle.cs_types.specs.Queue.{IsRanked, seat_of, spot_of, queue_of, queued_of, top_of, first_with, next_with, Seats, Spots, seat_cmp, spot_cmp};
 ghost use Rattle.run_queue.specs.Fair.{least_rank_in};
-ghost use Rattle.run_queue.specs.Run.{without, including, IsTied};
+ghost use Rattle.run_queue.specs.Run.{spotted, without, including, IsTied};
 ghost use Rattle.cookie_queue.specs.Anew.{respotted};
 ghost use Rattle.run_queue.specs.Anew.{reseated};
 ghost use Rattle.run_queue.specs.Classes.{stamped};
@@ -240,6 +240,12 @@ impl RunQueue {
     /// task has it.
     pub fn first_of<L: Ledger>(&self, cookie: Cookie, steps: &mut Steps<L>) -> Option<Queued>
         ensures first { result ≡ first_with self.now.cookies cookie }
+
+        // Where this is the queue of some tasks of a room, it is the first of those with the cookie.
+        ensures model { (tasks : List Task) → self.now.cookies ≡ spotted (list.map queued_of tasks) →
+            All (λ task. priority_of task.spec.policy ≤ 99) tasks → cookie ≢ 0 →
+            result ≡ option_map queued_of (first_of (list.filter (λ task. task.cookie == cookie) tasks)) }
+
         ensures counted { steps.new ≤ steps.old + most_comparisons (map.len self.now.tasks) }
     {
         self.cookies.first_of(cookie, steps)
@@ -250,6 +256,13 @@ impl RunQueue {
     pub fn next_of<L: Ledger>(&self, task: &Queued, steps: &mut Steps<L>) -> Option<Queued>
         requires { IsRanked task.now }
         ensures next { result ≡ next_with self.now.cookies task.now }
+
+        // Where this is the queue of some tasks of a room, it is the first of those with the cookie behind the task.
+        ensures model { (tasks : List Task) (above : Task) → self.now.cookies ≡ spotted (list.map queued_of tasks) →
+            All (λ task. priority_of task.spec.policy ≤ 99) tasks → task.now ≡ queued_of above →
+            priority_of above.spec.policy ≤ 99 → above.cookie ≢ 0 →
+            result ≡ option_map queued_of (first_of (list.filter (λ other. (other.cookie == above.cookie) && goes_before above other) tasks)) }
+
         ensures counted { steps.new ≤ steps.old + most_comparisons (map.len self.now.tasks) }
     {
         self.cookies.next_of(task, steps)

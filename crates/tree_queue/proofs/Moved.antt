@@ -29,7 +29,8 @@ use Rattle.cookie_queue.specs.Anew.{respotted}
 use Rattle.run_queue.specs.Anew.{reseated}
 use Rattle.run_queue.specs.Run.{IsTied}
 use Rattle.run_queue.proofs.Ties.{IsTied-empty, IsTied-plain, IsTied-cookie}
-use Rattle.tree_queue.specs.Held.{AreApart, AreDistinct, has_cookie, seated, spotted}
+use Rattle.run_queue.specs.Run.{has_cookie, spotted}
+use Rattle.tree_queue.specs.Held.{AreApart, AreDistinct, seated}
 use Rattle.tree_queue.specs.Kinds.{kind_of, count_of, AreCounted}
 use Rattle.tree_queue.specs.Renewed.{key_in}
 use Rattle.tree_queue.proofs.Made.{free_at}

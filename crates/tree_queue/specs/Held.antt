@@ -1,5 +1,5 @@
 -- Held: when a run queue holds some tasks.
-use Rattle.std.specs.Prelude.{◌≡◌, ◌≢◌, ℕ, ◌+◌, ◌≤◌, ◌==◌, Bool, false, not, if◌then◌else◌, Option, Some, List, [], ◌∷◌, length, map, filter, find}
+use Rattle.std.specs.Prelude.{◌≡◌, ◌≢◌, ℕ, ◌+◌, ◌≤◌, ◌==◌, Bool, false, if◌then◌else◌, Option, Some, List, [], ◌∷◌, length, map, find}
 use Rattle.std.specs.List.{AllByRecursion}
 use Rattle.std.specs.FinMap.{from_entries}
 use Rattle.std.specs.Option.{option_map, option_map_or}
@@ -7,21 +7,14 @@ use Rattle.std.specs.Ordering.{is_lt}
 use Rattle.cs_types.specs.declared.queue.Queued.{Queued}
 use Rattle.cs_types.specs.declared.task.Task.{Task}
 use Rattle.cs_types.specs.Order.{foremost}
-use Rattle.cs_types.specs.Queue.{Seats, Spots, RunQueued, seat_cmp, seat_of, spot_of, queued_of}
+use Rattle.cs_types.specs.Queue.{Seats, RunQueued, seat_cmp, seat_of, queued_of}
 use Rattle.cs_types.specs.Room.{has_pid}
+use Rattle.run_queue.specs.Run.{spotted}
 use Rattle.tree_queue.specs.Kinds.{kind_of, lot_of, AreCounted}
 
 -- the tasks by their seats
 abbrev pub seated : List Queued → Seats
 seated tasks = from_entries (map (λ task. (seat_of task, task.pid)) tasks)
-
--- whether a task has a cookie
-abbrev pub has_cookie : Queued → Bool
-has_cookie task = not (task.cookie == 0)
-
--- those that have a cookie, by their spots
-abbrev pub spotted : List Queued → Spots
-spotted tasks = from_entries (map (λ task. (spot_of task, task.pid)) (filter has_cookie tasks))
 
 -- two tasks have two pids and two stamps
 abbrev pub AreApart : Queued → Queued → Type 0

@@ -1,10 +1,9 @@
 use Rattle.std.proofs.Common.{sym, ◌∙◌, arith}
-use Rattle.std.proofs.lemmas.List.Elements.{recursion_from_All}
 use Rattle.cs_types.specs.Order.{first_of}
-use Rattle.cs_types.specs.Queue.{next_with, queued_of}
+use Rattle.cs_types.specs.Queue.{queued_of}
 use Rattle.core_lanes.specs.Queued.{queued_among, with_cookie, behind}
 use Rattle.tree_queue.proofs.Tasks.{ranked, low_priority}
-use Rattle.tree_queue.proofs.Asked.{IsLow, low_among, next_with-spotted, found_behind, none_of, found_queued}
+use Rattle.tree_queue.proofs.Asked.{low_among, next_behind, found_behind, none_of, found_queued}
 use Rattle.tree_queue.proofs.Compared.{few_of_all}
 use Rattle.tree_queue.proofs.queue.TreeQueueSiblingQueue.next_with.Goals as goal
 
@@ -17,12 +16,12 @@ returns-in_err-next_of g c = record {
       let task = c.args.task.now in
       let tasks = c.args.table.now.tasks in
       let queued = queued_among tasks c.args._cpu in
-      let low = recursion_from_All IsLow queued (low_among tasks c.args._cpu c.requires.find.search.policies) in
+      let low = low_among tasks c.args._cpu c.requires.find.search.policies in
       c.from_residual.ensures
       ∙ none_of queued_of (first_of (behind task (with_cookie task.cookie queued)))
-      (sym c.in_err-next_of.was ∙ c.next_of.ensures.next
-      ∙ (λ i. next_with (c.requires.find.search.holds.trees.spots i) (c.queued_of.ensures i))
-      ∙ next_with-spotted queued low task (low_priority task.spec.policy c.requires.policy) c.requires.find.cookie);
+      (sym c.in_err-next_of.was
+      ∙ c.next_of.ensures.model queued task c.requires.find.search.holds.trees.spots low c.queued_of.ensures (low_priority task.spec.policy c.requires.policy) c.requires.find.cookie
+      ∙ next_behind queued task);
   counted = omega (arith, c.next_of.ensures.counted, few_of_all (queued_among c.args.table.now.tasks c.args._cpu) c.requires.find.search.holds.trees);
 }
 
@@ -32,11 +31,11 @@ returns g c = record {
       let task = c.args.task.now in
       let tasks = c.args.table.now.tasks in
       let queued = queued_among tasks c.args._cpu in
-      let low = recursion_from_All IsLow queued (low_among tasks c.args._cpu c.requires.find.search.policies) in
+      let low = low_among tasks c.args._cpu c.requires.find.search.policies in
       c.task_of.ensures.task
       ∙ found_queued tasks c.in_ok-next_of.field-0 (first_of (behind task (with_cookie task.cookie queued))) (found_behind tasks c.args._cpu task c.task_of.ensures.sound.rising)
-      (sym c.in_ok-next_of.was ∙ c.next_of.ensures.next
-      ∙ (λ i. next_with (c.requires.find.search.holds.trees.spots i) (c.queued_of.ensures i))
-      ∙ next_with-spotted queued low task (low_priority task.spec.policy c.requires.policy) c.requires.find.cookie);
+      (sym c.in_ok-next_of.was
+      ∙ c.next_of.ensures.model queued task c.requires.find.search.holds.trees.spots low c.queued_of.ensures (low_priority task.spec.policy c.requires.policy) c.requires.find.cookie
+      ∙ next_behind queued task);
   counted = omega (arith, c.next_of.ensures.counted, few_of_all (queued_among c.args.table.now.tasks c.args._cpu) c.requires.find.search.holds.trees);
 }
