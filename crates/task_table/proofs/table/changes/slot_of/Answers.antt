@@ -2,7 +2,7 @@ use Rattle.std.proofs.Common.{sym, ap, subst, ◌∙◌}
 use Rattle.std.specs.Prelude.{option_copied}
 use Rattle.task_table.specs.Inside.{IsSlotOf}
 use Rattle.task_table.proofs.Noted.{stands}
-use Rattle.task_table.proofs.table.slot_of.Goals as goal
+use Rattle.task_table.proofs.table.changes.slot_of.Goals as goal
 
 pub returns-in-Some : goal.returns-in-Some
 returns-in-Some c threads processes room limit tasks kept =

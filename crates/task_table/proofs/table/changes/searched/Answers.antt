@@ -3,7 +3,7 @@ use Rattle.task_table.proofs.Rising.{none_gap, find_none, at_within}
 use Rattle.task_table.proofs.Slots.{length_both}
 use Rattle.task_table.specs.declared.entry.Entry.{Entry}
 use Rattle.task_table.specs.Table.{pid_of}
-use Rattle.task_table.proofs.table.searched.Goals as goal
+use Rattle.task_table.proofs.table.changes.searched.Goals as goal
 
 pub returns-in_default : goal.returns-in_default
 returns-in_default c tasks index rises = find_none c.args.pid tasks (none_gap c.args.pid _ tasks (c.in_default.ensures tasks index rises))
