@@ -2,15 +2,15 @@
 
 ghost use Rattle.std.specs.Prelude.{◌≡◌, ℕ, ◌≢◌, ◌==◌, length, find, None, Some, OnOk, OnErr};
 ghost use Rattle.cs_types.specs.declared.task.Task.{Task as SomeTask};
-ghost use Rattle.cs_types.specs.Room.{has_pid, inserted};
+ghost use Rattle.cs_types.specs.Room.{asleep, has_pid, inserted};
 ghost use Rattle.cs_types.specs.Order.{deadline_class, class_of};
-ghost use Rattle.cs_types.specs.Step.{child_of};
+ghost use Rattle.cs_types.specs.Step.{child_spec, child_of};
 ghost use Rattle.task_table.specs.Table.{total_in, IsSound};
 ghost use Rattle.cookie_refs.specs.Refs.{Agree};
 ghost use Rattle.fork_inherit.specs.Answers.{fork_answer};
 
 use cookie_refs::CookieRefs;
-use cs_types::{Pid, Policy, Task, TaskSpec};
+use cs_types::{Cookie, Pid, Policy, Task, TaskSpec};
 use task_table::TaskTable;
 use thiserror::Error;
 
@@ -25,30 +25,18 @@ pub enum ForkFault {
     Eagain,
 }
 
-/// A child as it is born: asleep, at home where its caller is, with its caller's policy, credentials,
-/// process group and cookie, and with all numbers 0. A thread is in its caller's thread group, and a
-/// process leads its own.
-fn child_of(caller: &Task, thread: bool, pid: Pid) -> Task
-    ensures { result ≡ child_of caller.now thread pid }
+/// The line of a child as it is born: at home where its caller is, with its caller's policy, credentials and
+/// process group. A thread is in its caller's thread group, and a process leads its own.
+fn child_spec(caller: &Task, thread: bool, pid: Pid) -> TaskSpec
+    ensures { result ≡ child_spec caller.now thread pid }
 {
-    let spec = TaskSpec {
+    TaskSpec {
         pid,
         tgid: if thread { caller.spec.tgid } else { pid },
         pgid: caller.spec.pgid,
         cpu: caller.home,
         policy: caller.spec.policy,
         creds: caller.spec.creds,
-    };
-    Task {
-        spec,
-        cookie: caller.cookie,
-        home: spec.cpu,
-        queued: false,
-        vtime: 0,
-        deadline: 0,
-        stamp: 0,
-        used: 0,
-        occupation: 0,
     }
 }
 
@@ -59,16 +47,17 @@ fn is_deadline(policy: Policy) -> bool
     matches!(policy, Policy::Deadline(_))
 }
 
-/// Puts the task into a table that has a slot left and no task with its pid.
-fn insert(table: &mut TaskTable, task: Task)
-    requires free { find (has_pid task.spec.pid) table.old.tasks ≡ None }
+/// Puts a task with the cookie, asleep and with all numbers 0, into a table that has a slot left and no task with its pid.
+fn insert(table: &mut TaskTable, spec: TaskSpec, cookie: Cookie)
+    requires free { find (has_pid spec.pid) table.old.tasks ≡ None }
     requires spare { length table.old.tasks ≢ table.old.limit }
-    ensures inserted { table.new ≡ record table.old { tasks = inserted task table.old.tasks; totals = table.new.totals } }
+    ensures inserted { table.new ≡
+        record table.old { tasks = inserted (record (asleep spec) { cookie = cookie }) table.old.tasks; totals = table.new.totals } }
     ensures totals { (pid : ℕ) → total_in table.new pid ≡ total_in table.old pid }
     ensures sound { IsSound table.new }
 {
-    table.add(task.spec).unwrap();
-    table.change(task);
+    table.add(spec).unwrap();
+    table.give_cookie(spec.pid, cookie);
 }
 
 /// The task with the pid `caller` gets a child with the pid `child`, a thread of its group or a
@@ -109,7 +98,7 @@ pub fn fork(
     if table.len() == limit || is_deadline(by.spec.policy) {
         return Err(ForkFault::Eagain);
     }
-    insert(table, child_of(&by, thread, child));
+    insert(table, child_spec(&by, thread, child), by.cookie);
     refs.get(by.cookie);
     Ok(())
 }

@@ -189,14 +189,6 @@ find-without pid (task ∷ rest) =
       | inr past ↦ rw (past, past) (find-without pid rest)
     ]
 
-pub with_none : (new : Task) (tasks : List Task) → NoneHas new.spec.pid tasks →
-    map (λ other. cond (has_pid new.spec.pid other) new other) tasks ≡ tasks
-with_none new [] none = refl
-with_none new (task ∷ rest) none =
-    let head : cond (has_pid new.spec.pid task) new task ≡ task = cond-false (has_pid new.spec.pid task) new task none.0 in
-    let tail = with_none new rest none.1 in
-    cc
-
 pub changed_none : (change : Task → Task) (pid : ℕ) (tasks : List Task) → NoneHas pid tasks →
     map (λ (task : Task). cond (has_pid pid task) (change task) task) tasks ≡ tasks
 changed_none change pid [] none = refl
@@ -237,7 +229,7 @@ with_at new position [] at = absurd at
 with_at new zero (task ∷ rest) at =
     ap (λ (t : Task). t ∷ map (λ other. cond (has_pid new.spec.pid other) new other) rest)
     (cond-true (eqb task.spec.pid new.spec.pid) new task (eq-eqb task.spec.pid new.spec.pid at.0))
-    ∙ ap (λ (ts : List Task). new ∷ ts) (with_none new rest (none_above new.spec.pid (new.spec.pid + 1) rest (omega arith) at.1))
+    ∙ ap (λ (ts : List Task). new ∷ ts) (changed_none (λ _. new) new.spec.pid rest (none_above new.spec.pid (new.spec.pid + 1) rest (omega arith) at.1))
 with_at new (suc position) (task ∷ rest) at =
     ap (λ (t : Task). t ∷ map (λ other. cond (has_pid new.spec.pid other) new other) rest)
     (cond-false (eqb task.spec.pid new.spec.pid) new task (ne_eqb task.spec.pid new.spec.pid (λ same. omega (arith, at.0))))

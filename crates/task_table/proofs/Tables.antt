@@ -17,7 +17,7 @@ use Rattle.task_table.specs.declared.group.Group.TheVariants.{All, Threads, Proc
 use Rattle.task_table.specs.Group.{is_in_group, group_above}
 use Rattle.cs_types.proofs.Filtered.{each-filter}
 use Rattle.cs_types.proofs.Inserted.{is_below, is_above}
-use Rattle.task_table.proofs.Rising.{weaker, above_all, NoneHas, with_none}
+use Rattle.task_table.proofs.Rising.{weaker, above_all, NoneHas, changed_none}
 
 -- ---- lists
 
@@ -132,20 +132,20 @@ none_found pid (first ∷ rest) none =
       | inr past ↦ (past, none_found pid rest (sym (cond-false _ (Some first) (find (has_pid pid) rest) past) ∙ none))
     ]
 
--- To put a task asleep in its position and then change it puts the changed one there.
-pub inserted_changed : (task : Task) (tasks : List Task) → find (has_pid task.spec.pid) tasks ≡ None →
-    map (λ other. cond (has_pid task.spec.pid other) task other) (inserted (asleep task.spec) tasks) ≡ inserted task tasks
-inserted_changed task tasks none =
-    map-append (λ other. cond (has_pid task.spec.pid other) task other) (filter (is_below task.spec.pid) tasks)
-    (asleep task.spec ∷ filter (is_above task.spec.pid) tasks)
-    ∙ (λ i. kept (is_below task.spec.pid) i ++ cond (its_own i) task (asleep task.spec) ∷ kept (is_above task.spec.pid) i) where
-      its_own : has_pid task.spec.pid (asleep task.spec) ≡ true
-      its_own = eq-eqb task.spec.pid task.spec.pid refl
+-- To put a task asleep in its position and then give it a cookie puts it there with the cookie.
+pub inserted_given : (spec : TaskSpec) (cookie : ℕ) (tasks : List Task) → find (has_pid spec.pid) tasks ≡ None →
+    map (λ (other : Task). cond (has_pid spec.pid other) (record other { cookie = cookie }) other) (inserted (asleep spec) tasks)
+    ≡ inserted (record (asleep spec) { cookie = cookie }) tasks
+inserted_given spec cookie tasks none =
+    map-append (λ (other : Task). cond (has_pid spec.pid other) (record other { cookie = cookie }) other) (filter (is_below spec.pid) tasks) (asleep spec ∷ filter (is_above spec.pid) tasks)
+    ∙ (λ i. kept (is_below spec.pid) i ++ cond (its_own i) (record (asleep spec) { cookie = cookie }) (asleep spec) ∷ kept (is_above spec.pid) i) where
+      its_own : has_pid spec.pid (asleep spec) ≡ true
+      its_own = eq-eqb spec.pid spec.pid refl
 
-      kept : (p : Task → Bool) → map (λ other. cond (has_pid task.spec.pid other) task other) (filter p tasks) ≡ filter p tasks
+      kept : (p : Task → Bool) → map (λ (other : Task). cond (has_pid spec.pid other) (record other { cookie = cookie }) other) (filter p tasks) ≡ filter p tasks
       kept p =
-          with_none task (filter p tasks)
-          (each-filter (λ other. has_pid task.spec.pid other ≡ false) p tasks (none_found task.spec.pid tasks none))
+          changed_none (λ other. record other { cookie = cookie }) spec.pid (filter p tasks)
+          (each-filter (λ other. has_pid spec.pid other ≡ false) p tasks (none_found spec.pid tasks none))
 
 -- ---- a task whose cookie is set
 

@@ -1,7 +1,7 @@
-use Rattle.std.proofs.Common.{arith, ◌≡◌, ◌∙◌, sym, ap, subst}
+use Rattle.std.proofs.Common.{arith, ◌≡◌, ◌∙◌, sym, subst}
 use Rattle.std.specs.Prelude.{find, None}
 use Rattle.cs_types.specs.declared.task.Task.{Task}
-use Rattle.cs_types.specs.Room.{has_pid}
+use Rattle.cs_types.specs.Room.{asleep, has_pid}
 use Rattle.cookie_refs.specs.Refs.{Agree}
 use Rattle.cookie_refs.proofs.Agreements.{own_cookie_is_live, count_of-le, AgreeBut-inserted}
 use Rattle.task_table.specs.Table.{Table}
@@ -17,7 +17,7 @@ get-requires-clause-few c =
 
 pub returns-clause-agree : goal.returns-clause-agree
 returns-clause-agree c =
-    let inherited : c.child_of.result.cookie ≡ c.in-Some.by.cookie = ap (λ (task : Task). task.cookie) c.child_of.ensures in
-    let unused : find (has_pid c.child_of.result.spec.pid) c.args.table.now.tasks ≡ None = rw c.child_of.ensures c.requires.unused in
+    let child : Task = record (asleep c.child_spec.result) { cookie = c.in-Some.by.cookie } in
+    let unused : find (has_pid c.child_spec.result.pid) c.args.table.now.tasks ≡ None = rw c.child_spec.ensures c.requires.unused in
     subst (λ (table : Table). Agree c.get.new.self table.tasks) (sym c.insert.ensures.inserted)
-    (AgreeBut-inserted c.args.refs.now c.get.new.self c.args.table.now.tasks 0 c.child_of.result unused (λ other. rw inherited (c.get.ensures.counts other)) c.requires.agree)
+    (AgreeBut-inserted c.args.refs.now c.get.new.self c.args.table.now.tasks 0 child unused c.get.ensures.counts c.requires.agree)

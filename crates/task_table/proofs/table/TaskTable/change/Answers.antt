@@ -5,7 +5,7 @@ use Rattle.slab.proofs.SlabLemmas.{Updates-with_value}
 use Rattle.cs_types.specs.Room.{has_pid}
 use Rattle.task_table.specs.Table.{Table}
 use Rattle.task_table.specs.Inside.{IsKept}
-use Rattle.task_table.proofs.Rising.{none_gap, find_none, with_none}
+use Rattle.task_table.proofs.Rising.{none_gap, find_none, changed_none}
 use Rattle.task_table.proofs.Kept.{kept_of, kept_again, seen_as, position_within, found, found_some, member_at, counts_at, kept_set, totals_set, slab_len-with_value}
 use Rattle.task_table.specs.declared.entry.Entry.{Entry}
 use Rattle.task_table.specs.Grouping.{AreSpans, AreGrouped, thread_of, process_of}
@@ -19,7 +19,7 @@ returns-in_default-clause-old c = sym (find_none c.args.task.spec.pid c.args.sel
 pub returns-in_default-clause-changed : goal.returns-in_default-clause-changed
 returns-in_default-clause-changed c =
     ap (λ ts. let table : Table = record c.args.self.now { tasks = ts } in table)
-    (sym (with_none c.args.task c.args.self.now.tasks (none_gap c.args.task.spec.pid _ c.args.self.now.tasks c.in_default.ensures.position)))
+    (sym (changed_none (λ _. c.args.task) c.args.task.spec.pid c.args.self.now.tasks (none_gap c.args.task.spec.pid _ c.args.self.now.tasks c.in_default.ensures.position)))
 
 pub index_mut-entry-requires : goal.index_mut-entry-requires
 index_mut-entry-requires c =
