@@ -1,0 +1,6 @@
+pub mod Extended
+pub mod Marked
+pub mod Placed
+pub mod Recorded
+pub mod Runs
+pub mod Steps

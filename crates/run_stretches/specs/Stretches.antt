@@ -22,14 +22,30 @@ is_same Idles Idles = true
 is_same (ForcedIdle a) (ForcedIdle b) = a == b
 is_same one other = false
 
--- whether a sibling goes on in a span with what it did in another: it runs the same task or none, does the same, and is
--- pending in both or in neither
-abbrev pub goes_on : ℕ → Span → Span → Bool
-goes_on cpu past span =
-    (pid_run past.room cpu == pid_run span.room cpu) && is_same (doing_of past.room cpu) (doing_of span.room cpu)
-    && (if is_pending past.room cpu then is_pending span.room cpu else not (is_pending span.room cpu))
+-- what a sibling does in a span, as the stretch of that span alone
+abbrev pub stretch_in : Span → ℕ → Stretch
+stretch_in span cpu =
+    record {
+      from = span.room.clock;
+      to = span.room.clock + span.time;
+      cpu = cpu;
+      pid = pid_run span.room cpu;
+      doing = doing_of span.room cpu;
+      pending = is_pending span.room cpu;
+    }
 
--- whether a stretch of a sibling begins with a span: at the first one, and where the sibling does not go on from the one before
+-- whether two stretches are alike: their sibling runs the same task or none, does the same, and is pending in both or in
+-- neither
+abbrev pub is_alike : Stretch → Stretch → Bool
+is_alike one other =
+    (one.pid == other.pid) && is_same one.doing other.doing && (if one.pending then other.pending else not other.pending)
+
+-- whether a sibling goes on in a span with what it did in another
+abbrev pub goes_on : ℕ → Span → Span → Bool
+goes_on cpu past span = is_alike (stretch_in past cpu) (stretch_in span cpu)
+
+-- whether a stretch of a sibling begins with a span: at the first one, and where the sibling does not go on from the one
+-- before
 abbrev pub begins : Option Span → Span → ℕ → Bool
 begins None span cpu = true
 begins (Some past) span cpu = not (goes_on cpu past span)
@@ -37,14 +53,8 @@ begins (Some past) span cpu = not (goes_on cpu past span)
 -- the stretch of a sibling that begins with a span, where these come after it: it lasts as long as the sibling goes on
 abbrev pub stretch_from : Span → List Span → ℕ → Stretch
 stretch_from span later cpu =
-    record {
-      from = span.room.clock;
-      to = span.room.clock + total_time (span ∷ take_while (goes_on cpu span) later);
-      cpu = cpu;
-      pid = pid_run span.room cpu;
-      doing = doing_of span.room cpu;
-      pending = is_pending span.room cpu;
-    }
+    let first = stretch_in span cpu in
+    record first { to = first.to + total_time (take_while (goes_on cpu span) later) }
 
 -- the stretches that begin in these spans of a core with this number of siblings, after another span or none: by rising
 -- begin, and of one begin by rising sibling

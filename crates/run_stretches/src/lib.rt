@@ -2,6 +2,9 @@
 //! by side. It is over the contract of a machine alone.
 #![tactic(auto)]
 
+mod kept;
+mod now;
+mod queued;
 mod recorder;
 mod run;
 mod stretches;

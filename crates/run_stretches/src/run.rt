@@ -1,21 +1,30 @@
 //! A run with what it shows over time.
 
-ghost use Rattle.std.specs.Prelude.{◌≡◌, ◌+◌, ◌*◌, ◌≤◌, [], All, IfOk, length};
-ghost use Rattle.cs_types.specs.Scenario.{IsEvent};
+ghost use Rattle.std.specs.Prelude.{◌≡◌, ◌+◌, ◌*◌, ◌≤◌, [], All, IfOk, OnOk, length};
+ghost use Rattle.cs_types.specs.Scenario.{IsEvent, IsPlayable};
+ghost use Rattle.cs_types.specs.History.{history_of};
+ghost use Rattle.cs_types.specs.Drain.{IsDrained};
+ghost use Rattle.run_stretches.specs.Stretches.{stretches_of};
+ghost use Rattle.run_stretches.specs.Kept.{IsRecordOf};
 
 use crate::recorder::Recorder;
 use crate::stretches::RunStretches;
 use cs_types::{OutOfMemory, Room, Step};
 use std::alloc::Global;
 
-/// Makes the steps, in their order, and keeps what they show.
+/// Makes the steps, in their order, in a room that has made none, and keeps what they show.
 fn play<R: Room>(room: &mut R, steps: &[Step], recorder: &mut Recorder) -> Result<(), OutOfMemory>
+    requires playable { IsPlayable (R.opening room.old).scenario }
+    requires empty { R.history room.old ≡ [] }
     requires spare { length steps.now ≤ R.spare room.old }
     requires events { All (λ step. IsEvent (R.opening room.old).scenario.siblings step.event) steps.now }
-    requires siblings { recorder.old ≡ (R.opening room.old).scenario.siblings }
+    requires record { IsRecordOf (R.opening room.old) (R.history room.old) recorder.old.stretches recorder.old.queued }
 
-    ensures spare { IfOk result (λ _. R.spare room.new + length steps.now ≡ R.spare room.old) }
+    ensures history { OnOk result (R.history room.new ≡ history_of (R.opening room.old) steps.now) }
+    ensures spare { OnOk result (R.spare room.new + length steps.now ≡ R.spare room.old) }
     ensures opening { R.opening room.new ≡ R.opening room.old }
+    ensures record { OnOk result
+        (IsRecordOf (R.opening room.new) (R.history room.new) recorder.new.stretches recorder.new.queued) }
 {
     for step in steps {
         recorder.before(room, step.event)?;
@@ -37,12 +46,15 @@ pub fn recorded_run<R: Room>(
         ≤ R.spare room.old }
     requires events { All (λ step. IsEvent (R.opening room.old).scenario.siblings step.event) steps.now }
 
-    ensures { R.opening room.new ≡ R.opening room.old }
+    ensures history { IfOk result (λ _.
+        IsDrained (R.opening room.old) (history_of (R.opening room.old) steps.now) (R.history room.new)) }
+    ensures opening { R.opening room.new ≡ R.opening room.old }
+    ensures stretches { IfOk result (λ run. run ≡ stretches_of (R.opening room.new) (R.history room.new)) }
 {
-    let mut recorder = Recorder::of(alloc, room.siblings())?;
+    let mut recorder = Recorder::none(alloc, room.siblings())?;
     play(room, steps, &mut recorder)?;
     if room.drain() > 0 {
-        recorder.moment(room.clock())?;
+        recorder.moment(room)?;
     }
-    Ok(recorder.close())
+    Ok(recorder.close(room))
 }

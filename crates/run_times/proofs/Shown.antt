@@ -52,7 +52,7 @@ find_next low high pid (task ∷ tasks) rises some =
       by_test false false has above rest = rest
 
 -- the view of the next task above a pid, and that of the task with one
-abbrev shown_after : RoomState → ℕ → Option TaskView
+abbrev pub shown_after : RoomState → ℕ → Option TaskView
 shown_after room pid = option_map (task_view room) (task_after room pid)
 
 abbrev pub shown_at : RoomState → ℕ → Option TaskView
@@ -131,7 +131,7 @@ cookie_online moment cpu view shown rises is online found =
 
 -- ---- the tasks queued on a sibling
 
-abbrev is_on : ℕ → Task → Bool
+abbrev pub is_on : ℕ → Task → Bool
 is_on cpu task = task.queued && (task.home == cpu)
 
 -- those of them with a pid above one
@@ -142,7 +142,7 @@ pub queued_start : (room : RoomState) (cpu : ℕ) → AreRising room → queued_
 queued_start room cpu rises = ap (filter (is_on cpu)) (above_zero room.next_pid room.tasks rises)
 
 -- the next task, and those above it
-queued_with : (room : RoomState) (cpu pid : ℕ) (view : TaskView) → AreRising room → Some view ≡ shown_after room pid →
+pub queued_with : (room : RoomState) (cpu pid : ℕ) (view : TaskView) → AreRising room → Some view ≡ shown_after room pid →
     (task : Task) × (view ≡ task_view room task) × (queued_above room cpu pid ≡ cond (is_on cpu task) (task ∷ queued_above room cpu view.pid) (queued_above room cpu view.pid))
 queued_with room cpu pid view rises shown = go (task_after room pid) refl shown where
   go : (found : Option Task) → task_after room pid ≡ found → Some view ≡ option_map (task_view room) found →
