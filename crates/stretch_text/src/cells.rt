@@ -1,56 +1,43 @@
 //! What a line says of a stretch. It is separate since both forms say the same.
 
-use cs_types::{Cookie, Cpu, Pid};
-use run_stretches::Stretch;
+ghost use Rattle.std.specs.Prelude.{◌≡◌, ◌≤◌, length};
+ghost use Rattle.stretch_text.specs.Cells as told;
+
+use cs_types::{Cookie, Pid};
 use run_times::Doing;
-use serde::Serialize;
 
-/// What a sibling does, without its cookie.
-#[derive(Clone, Copy, Serialize)]
-#[serde(rename_all = "lowercase")]
-pub(crate) enum State {
-    Running,
-    Idle,
-    Offline,
-}
-
-/// The cells of a stretch, named as their columns are.
-#[derive(Clone, Copy, Serialize)]
-pub(crate) struct Cells {
-    pub from: u64,
-    pub to: u64,
-    pub sibling: Cpu,
-    pub state: State,
-    /// The cookie of the task that it runs, or that of the core where it is forced idle.
-    pub cookie: Option<Cookie>,
-    pub pending: bool,
-    /// Whether it is forced idle.
-    pub forced: bool,
-    pub pid: Option<Pid>,
-}
-
-/// The state, the cookie, and whether it is forced idle.
-fn split(doing: Doing) -> (State, Option<Cookie>, bool) {
+/// The word of what a sibling does, without its cookie.
+pub(crate) fn state_word(doing: Doing) -> &'static str
+    ensures word { result.now ≡ told.state_word doing }
+    ensures longest { length result.now ≤ 7 }
+{
     match doing {
-        Doing::Offline => (State::Offline, None, false),
-        Doing::Runs(cookie) => (State::Running, Some(cookie), false),
-        Doing::Idles => (State::Idle, None, false),
-        Doing::ForcedIdle(cookie) => (State::Idle, Some(cookie), true),
+        Doing::Offline => "offline",
+        Doing::Runs(_) => "running",
+        Doing::Idles | Doing::ForcedIdle(_) => "idle",
     }
 }
 
-impl Cells {
-    pub(crate) fn of(stretch: Stretch) -> Self {
-        let (state, cookie, forced) = split(stretch.doing);
-        Cells {
-            from: stretch.from,
-            to: stretch.to,
-            sibling: stretch.cpu,
-            state,
-            cookie,
-            pending: stretch.pending,
-            forced,
-            pid: (stretch.pid != 0).then_some(stretch.pid),
-        }
+/// The cookie of the task that a sibling runs, or that of the core where it is forced idle.
+pub(crate) fn cookie_of(doing: Doing) -> Option<Cookie>
+    ensures { result ≡ told.cookie_of doing }
+{
+    match doing {
+        Doing::Runs(cookie) | Doing::ForcedIdle(cookie) => Some(cookie),
+        Doing::Offline | Doing::Idles => None,
     }
+}
+
+/// Whether a sibling is forced idle.
+pub(crate) fn is_forced(doing: Doing) -> bool
+    ensures { result ≡ told.is_forced doing }
+{
+    matches!(doing, Doing::ForcedIdle(_))
+}
+
+/// The pid of the task that a sibling runs, where it runs one.
+pub(crate) fn pid_of(pid: Pid) -> Option<u64>
+    ensures { result ≡ told.pid_of pid }
+{
+    if pid == 0 { None } else { Some(u64::from(pid)) }
 }

@@ -1,5 +1,13 @@
-use Rattle.std.proofs.Common.{◌≡◌}
+use Rattle.std.proofs.Common.{◌≡◌, drop}
+use Rattle.cs_outside.proofs.Reached.{AreLeft}
+use Rattle.stretch_text.specs.Table.{row_text, segments_text}
 use Rattle.stretch_text.proofs.table.segments.Given as goal
 
 abbrev pub invariant-loop-stretch : goal.invariant-loop-stretch
-invariant-loop-stretch g l = g.K.Sink.faults l.sink ≡ g.K.Sink.faults l.fn.sink
+invariant-loop-stretch g l =
+    let written = g.K.Sink.written in
+    let faults = g.K.Sink.faults in
+    record {
+      left : AreLeft row_text (written l.fn.sink) (segments_text l.fn.run) (drop l.stretch-index l.fn.run) (written l.sink);
+      faultless : faults l.sink ≡ faults l.fn.sink;
+    }
