@@ -5,7 +5,7 @@ ghost use Rattle.cs_types.specs.Scenario.{IsEvent};
 ghost use Rattle.view_runner.specs.Ends.{EndsAsShown};
 ghost use Rattle.view_runner.specs.Written.{IsShown};
 
-use cs_outside::{Guard, Sink, Source, write_all};
+use cs_outside::{Guard, Sink, Source};
 use cs_types::{Room, Step};
 use ptrace_check::{FromScenario, Guards};
 use run_picture::picture;
@@ -47,25 +47,22 @@ fn write_picture<K: Sink>(run: &RunStretches, sink: &mut K) -> Status
 }
 
 /// Writes the lines of JSON, and says how that ended.
-fn write_json<K: Sink>(alloc: Global, run: &RunStretches, sink: &mut K) -> Status
+fn write_json<K: Sink>(run: &RunStretches, sink: &mut K) -> Status
     ensures { IsShown (record { bytes = K.written; faults = K.faults; before = sink.old; after = sink.new }) result }
 {
-    let Ok(text) = segments_json(alloc, run) else {
-        return Status::OutOfMemory;
-    };
-    match write_all(sink, text.as_str().as_bytes()) {
+    match segments_json(run, sink) {
         Ok(()) => Status::Done,
         Err(_) => Status::WriteFault,
     }
 }
 
 /// Writes what a run shows over time, in this form, and says how that ended.
-fn write_form<K: Sink>(alloc: Global, form: Form, run: &RunStretches, sink: &mut K) -> Status
+fn write_form<K: Sink>(form: Form, run: &RunStretches, sink: &mut K) -> Status
     ensures { IsShown (record { bytes = K.written; faults = K.faults; before = sink.old; after = sink.new }) result }
 {
     match form {
         Form::Table => write_table(run, sink),
-        Form::Json => write_json(alloc, run, sink),
+        Form::Json => write_json(run, sink),
         Form::Picture => write_picture(run, sink),
     }
 }
@@ -87,7 +84,7 @@ fn write_shown<R: Room, K: Sink>(
     ensures { IsShown (record { bytes = K.written; faults = K.faults; before = sink.old; after = sink.new }) result }
 {
     match recorded_run(alloc, &mut room, steps) {
-        Ok(run) => write_form(alloc, form, &run, sink),
+        Ok(run) => write_form(form, &run, sink),
         Err(_) => Status::OutOfMemory,
     }
 }
