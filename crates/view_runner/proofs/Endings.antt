@@ -4,10 +4,10 @@ use Rattle.std.specs.Prelude.{◌↔◌, ◌≤◌, Option, Some, None, IfSome, 
 use Rattle.cs_types.specs.declared.event.Step.{Step}
 use Rattle.cs_types.specs.declared.scenario.Scenario.{Scenario}
 use Rattle.cs_types.specs.Room.{Opening}
-use Rattle.cs_types.specs.History.{file, history_of}
+use Rattle.cs_types.specs.History.{History, file, history_of}
 use Rattle.cs_types.specs.Drain.{IsDrained}
 use Rattle.cs_types.proofs.Drains.{drained_alone}
-use Rattle.run_summary.specs.Summaries.{Summary}
+use Rattle.run_stretches.specs.declared.stretches.Stretch.{Stretch}
 use Rattle.scenario_input.specs.declared.stop.Stop.{Stop}
 use Rattle.scenario_input.specs.declared.stop.Stop.TheVariants.{TooLong}
 use Rattle.scenario_input.specs.declared.stop.Stop.TheVariants as stops
@@ -20,10 +20,13 @@ use Rattle.scenario_input.proofs.Stops.{stop_not_done, stop_not_words, stop_not_
 use Rattle.scenario_runner.specs.Outcomes.{opened_with, IsReplayHistory}
 use Rattle.scenario_runner.specs.Ends.{Used}
 use Rattle.scenario_runner.proofs.Endings.{HasRead, ends_stopped, ends_short}
-use Rattle.view_runner.specs.Ends.{IsTaken, IsTimed, EndsAsSummary, EndsAsShown}
 use Rattle.scenario_runner.specs.Written.{IsWritten}
-use Rattle.times_report.specs.Summary.{summary_text}
-use Rattle.view_runner.specs.Written.{WritesSummary, MayWriteSummary, IsShown}
+use Rattle.stretch_text.specs.Table.{segments_text}
+use Rattle.stretch_text.specs.Json.{segments_json_text}
+use Rattle.view_runner.specs.Ends.{IsTaken, AreSegmentsOf, IsTold, EndsAsTold, EndsAsShown}
+use Rattle.view_runner.specs.Written.{WritesTold, MayWriteTold, IsShown, IsFormWritten, MayWriteForm, EndsInForm}
+use Rattle.view_runner.specs.declared.shown.Form.{Form}
+use Rattle.view_runner.specs.declared.shown.Form.TheVariants.{Table, Json, Picture}
 
 -- ---- what was read
 
@@ -55,71 +58,74 @@ is_taken caps source read value scenario opening has is opened =
       faultless = has.faultless (not_both read value stops.ReadFault is);
     }
 
--- and the summary of its run
-is_timed : {S K T : Type 0} (caps : List ℕ) (source : Used S) (sink : Used K) (read : Result T Stop) (value : T) (scenario : Scenario) (steps : List Step) (ended : Status) →
-    HasRead caps source read → read ≡ Ok value → IsOpened caps source scenario (opened_with caps scenario) → steps ≡ scenario.steps →
-    (writes : WritesSummary (opened_with caps scenario) steps sink ended) → IsTimed caps source writes.summary
-is_timed caps source sink read value scenario steps ended has is opened all writes =
-    let of = opened_with caps scenario in
-    let drained = subst (λ (s : List Step). IsDrained of (history_of of s) writes.run) all writes.drained in
-    record {
-      scenario = scenario;
-      taken = is_taken caps source read value scenario of has is opened;
-      run = writes.run;
-      drained = drained;
-      alone = λ other too. drained_alone of (file of) other writes.run too drained;
-      of_run = writes.of_run;
-    }
+-- ---- how a command ends that tells something of a run
 
--- the summary was written, or the sink failed
-ends_written : {S K : Type 0} (caps : List ℕ) (source : Used S) (sink : Used K) (summary : Summary) (ended : Status) → IsTimed caps source summary → sink.faults sink.before < 2 ^ 64 - 1 →
-    IsWritten sink (summary_text summary) ended → EndsAsSummary caps source sink ended
-ends_written caps source sink summary ended timed few written =
-    record {
-      done = λ e. (written.faultless e, (summary, timed, written.whole e));
-      write_fault = λ e. (omega (arith, written.failed e, few), (summary, timed, written.prefix));
-      good_words = λ bad. elim written.either [
-        | inl done ↦ let wrong : status.BadWords ≡ status.Done = sym bad ∙ done in absurd cc
-        | inr fault ↦ let wrong : status.BadWords ≡ status.WriteFault = sym bad ∙ fault in absurd cc
-      ];
-      stopped = λ not_done not_fault. elim written.either [
-        | inl done ↦ absurd (not_done done)
-        | inr fault ↦ absurd (not_fault fault)
-      ];
-    }
+module _ {T : Type 0} (IsOf : Opening → History → T → Type 0) (text : T → List ℕ) where
+  -- what is told is that of the one run of what was read
+  is_told : {S K V : Type 0} (caps : List ℕ) (source : Used S) (sink : Used K) (read : Result V Stop) (value : V) (scenario : Scenario) (steps : List Step) (ended : Status) →
+      HasRead caps source read → read ≡ Ok value → IsOpened caps source scenario (opened_with caps scenario) → steps ≡ scenario.steps →
+      (writes : WritesTold IsOf text (opened_with caps scenario) steps sink ended) → IsTold IsOf caps source writes.told
+  is_told caps source sink read value scenario steps ended has is opened all writes =
+      let of = opened_with caps scenario in
+      let drained = subst (λ (s : List Step). IsDrained of (history_of of s) writes.run) all writes.drained in
+      record {
+        scenario = scenario;
+        taken = is_taken caps source read value scenario of has is opened;
+        run = writes.run;
+        drained = drained;
+        alone = λ other too. drained_alone of (file of) other writes.run too drained;
+        of_run = writes.of_run;
+      }
 
--- the input was played, or there was no memory for that
-pub ends_summarized : {S K T : Type 0} (caps : List ℕ) (source : Used S) (sink : Used K) (read : Result T Stop) (value : T) (scenario : Scenario) (opening : Opening) (steps : List Step) (ended : Status) →
-    HasRead caps source read → read ≡ Ok value → IsOpened caps source scenario opening → steps ≡ scenario.steps → sink.faults sink.before < 2 ^ 64 - 1 →
-    MayWriteSummary opening steps sink ended → EndsAsSummary caps source sink ended
-ends_summarized caps source sink read value scenario opening steps ended has is opened all few (inl writes) =
-    let told = subst (λ (o : Opening). WritesSummary o steps sink ended) opened.begins writes in
-    let of = subst (IsOpened caps source scenario) opened.begins opened in
-    ends_written caps source sink told.summary ended (is_timed caps source sink read value scenario steps ended has is of all told) few told.written
-ends_summarized caps source sink read value scenario opening steps ended has is opened all few (inr short) =
-    rw short.memory
-    (record {
-      done = λ e. absurd cc;
-      write_fault = λ e. absurd cc;
-      good_words = λ e. absurd cc;
-      stopped = λ _ _. ends_short IsReplayHistory caps source sink read value status.OutOfMemory has is (record { memory = refl; unwritten = short.unwritten });
-    })
+  -- it was written, or the sink failed
+  ends_written : {S K : Type 0} (caps : List ℕ) (source : Used S) (sink : Used K) (told : T) (ended : Status) → IsTold IsOf caps source told → sink.faults sink.before < 2 ^ 64 - 1 →
+      IsWritten sink (text told) ended → EndsAsTold IsOf text caps source sink ended
+  ends_written caps source sink told ended is few written =
+      record {
+        done = λ e. (written.faultless e, (told, is, written.whole e));
+        write_fault = λ e. (omega (arith, written.failed e, few), (told, is, written.prefix));
+        good_words = λ bad. elim written.either [
+          | inl done ↦ let wrong : status.BadWords ≡ status.Done = sym bad ∙ done in absurd cc
+          | inr fault ↦ let wrong : status.BadWords ≡ status.WriteFault = sym bad ∙ fault in absurd cc
+        ];
+        stopped = λ not_done not_fault. elim written.either [
+          | inl done ↦ absurd (not_done done)
+          | inr fault ↦ absurd (not_fault fault)
+        ];
+      }
 
--- the input was not played
-pub ends_refused : {S K T : Type 0} (caps : List ℕ) (source : Used S) (sink : Used K) (read : Result T Stop) (stop : Stop) →
-    HasRead caps source read → read ≡ Err stop → sink.after ≡ sink.before → EndsAsSummary caps source sink (status_of stop)
-ends_refused caps source sink read stop has is same =
-    record {
-      done = λ e. absurd (stop_not_done stop e);
-      write_fault = λ e. absurd (stop_not_write stop e);
-      good_words = λ e. absurd (stop_not_words stop e);
-      stopped = λ _ _. ends_stopped IsReplayHistory caps source sink read stop has is same;
-    }
+  -- the input was played, or there was no memory for that
+  pub ends_told : {S K V : Type 0} (caps : List ℕ) (source : Used S) (sink : Used K) (read : Result V Stop) (value : V) (scenario : Scenario) (opening : Opening) (steps : List Step) (ended : Status) →
+      HasRead caps source read → read ≡ Ok value → IsOpened caps source scenario opening → steps ≡ scenario.steps → sink.faults sink.before < 2 ^ 64 - 1 →
+      MayWriteTold IsOf text opening steps sink ended → EndsAsTold IsOf text caps source sink ended
+  ends_told caps source sink read value scenario opening steps ended has is opened all few (inl writes) =
+      let told = subst (λ (o : Opening). WritesTold IsOf text o steps sink ended) opened.begins writes in
+      let of = subst (IsOpened caps source scenario) opened.begins opened in
+      ends_written caps source sink told.told ended (is_told caps source sink read value scenario steps ended has is of all told) few told.written
+  ends_told caps source sink read value scenario opening steps ended has is opened all few (inr short) =
+      rw short.memory
+      (record {
+        done = λ e. absurd cc;
+        write_fault = λ e. absurd cc;
+        good_words = λ e. absurd cc;
+        stopped = λ _ _. ends_short IsReplayHistory caps source sink read value status.OutOfMemory has is (record { memory = refl; unwritten = short.unwritten });
+      })
 
--- ---- how it ends that shows a run
+  -- the input was not played
+  pub ends_refused : {S K V : Type 0} (caps : List ℕ) (source : Used S) (sink : Used K) (read : Result V Stop) (stop : Stop) →
+      HasRead caps source read → read ≡ Err stop → sink.after ≡ sink.before → EndsAsTold IsOf text caps source sink (status_of stop)
+  ends_refused caps source sink read stop has is same =
+      record {
+        done = λ e. absurd (stop_not_done stop e);
+        write_fault = λ e. absurd (stop_not_write stop e);
+        good_words = λ e. absurd (stop_not_words stop e);
+        stopped = λ _ _. ends_stopped IsReplayHistory caps source sink read stop has is same;
+      }
+
+-- ---- how a command ends that draws a run
 
 -- the input was played
-pub ends_shown : {S K T : Type 0} (caps : List ℕ) (source : Used S) (sink : Used K) (read : Result T Stop) (value : T) (scenario : Scenario) (opening : Opening) (ended : Status) →
+ends_shown : {S K T : Type 0} (caps : List ℕ) (source : Used S) (sink : Used K) (read : Result T Stop) (value : T) (scenario : Scenario) (opening : Opening) (ended : Status) →
     HasRead caps source read → read ≡ Ok value → IsOpened caps source scenario opening → sink.faults sink.before < 2 ^ 64 - 1 → IsShown sink ended →
     EndsAsShown caps source sink ended
 ends_shown caps source sink read value scenario opening ended has is opened few shown =
@@ -141,7 +147,7 @@ ends_shown caps source sink read value scenario opening ended has is opened few 
     }
 
 -- the input was not played
-pub ends_unshown : {S K T : Type 0} (caps : List ℕ) (source : Used S) (sink : Used K) (read : Result T Stop) (stop : Stop) →
+ends_unshown : {S K T : Type 0} (caps : List ℕ) (source : Used S) (sink : Used K) (read : Result T Stop) (stop : Stop) →
     HasRead caps source read → read ≡ Err stop → sink.after ≡ sink.before → EndsAsShown caps source sink (status_of stop)
 ends_unshown caps source sink read stop has is same =
     record {
@@ -150,3 +156,30 @@ ends_unshown caps source sink read stop has is same =
       good_words = λ e. absurd (stop_not_words stop e);
       stopped = λ _ _. ends_stopped IsReplayHistory caps source sink read stop has is same;
     }
+
+-- ---- how a command ends that writes a form
+
+-- the input was played
+pub ends_in_form : {S K T : Type 0} (form : Form) (caps : List ℕ) (source : Used S) (sink : Used K) (read : Result T Stop) (value : T) (scenario : Scenario) (opening : Opening) (steps : List Step) (ended : Status) →
+    HasRead caps source read → read ≡ Ok value → IsOpened caps source scenario opening → steps ≡ scenario.steps → sink.faults sink.before < 2 ^ 64 - 1 →
+    MayWriteForm form opening steps sink ended → EndsInForm form caps source sink ended
+ends_in_form Table caps source sink read value scenario opening steps ended has is opened all few writes =
+    ends_told AreSegmentsOf segments_text caps source sink read value scenario opening steps ended has is opened all few writes
+ends_in_form Json caps source sink read value scenario opening steps ended has is opened all few writes =
+    ends_told AreSegmentsOf segments_json_text caps source sink read value scenario opening steps ended has is opened all few writes
+ends_in_form Picture caps source sink read value scenario opening steps ended has is opened all few writes =
+    ends_shown caps source sink read value scenario opening ended has is opened few writes
+
+-- the input was not played
+pub ends_in_no_form : {S K T : Type 0} (form : Form) (caps : List ℕ) (source : Used S) (sink : Used K) (read : Result T Stop) (stop : Stop) →
+    HasRead caps source read → read ≡ Err stop → sink.after ≡ sink.before → EndsInForm form caps source sink (status_of stop)
+ends_in_no_form Table caps source sink read stop has is same = ends_refused AreSegmentsOf segments_text caps source sink read stop has is same
+ends_in_no_form Json caps source sink read stop has is same = ends_refused AreSegmentsOf segments_json_text caps source sink read stop has is same
+ends_in_no_form Picture caps source sink read stop has is same = ends_unshown caps source sink read stop has is same
+
+-- these stretches of the run were written in a form, or the sink failed
+pub written_in_form : {K : Type 0} (form : Form) (opening : Opening) (steps : List Step) (sink : Used K) (ended : Status) (run : History) (stretches : List Stretch) →
+    IsDrained opening (history_of opening steps) run → AreSegmentsOf opening run stretches → IsFormWritten form stretches sink ended → MayWriteForm form opening steps sink ended
+written_in_form Table opening steps sink ended run stretches drained of_run written = inl (record { run = run; drained = drained; told = stretches; of_run = of_run; written = written })
+written_in_form Json opening steps sink ended run stretches drained of_run written = inl (record { run = run; drained = drained; told = stretches; of_run = of_run; written = written })
+written_in_form Picture opening steps sink ended run stretches drained of_run shown = shown

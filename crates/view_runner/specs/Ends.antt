@@ -1,11 +1,16 @@
 -- Ends: how each command ends with its own word. When each status comes, what was read for it, and what was written.
 use Rattle.std.specs.Prelude.{◌≡◌, ◌≢◌, ℕ, ◌≤◌, List, None, IfSome}
 use Rattle.cs_types.specs.declared.scenario.Scenario.{Scenario}
+use Rattle.cs_types.specs.Room.{Opening}
 use Rattle.cs_types.specs.History.{History, file}
 use Rattle.cs_types.specs.Drain.{IsDrained}
 use Rattle.cs_outside.specs.Device.{appended, WritesPrefix}
-use Rattle.run_summary.specs.Summaries.{Summary, IsSummaryOf}
+use Rattle.run_summary.specs.Summaries.{IsSummaryOf}
+use Rattle.run_stretches.specs.declared.stretches.Stretch.{Stretch}
+use Rattle.run_stretches.specs.Stretches.{stretches_of}
 use Rattle.times_report.specs.Summary.{summary_text}
+use Rattle.stretch_text.specs.Table.{segments_text}
+use Rattle.stretch_text.specs.Json.{segments_json_text}
 use Rattle.scenario_input.specs.declared.status.Status.{Status}
 use Rattle.scenario_input.specs.declared.status.Status.TheVariants.{Done, BadWords, WriteFault}
 use Rattle.view_words.specs.declared.command.Command.{Command}
@@ -24,31 +29,33 @@ pub record IsTaken {S : Type 0} (caps : List ℕ) (source : Used S) (scenario : 
   pub taught : first_bad caps scenario.teaches ≡ None
   pub faultless : IsFaultless source
 
--- The input was read as a scenario, and this is the summary of a replay of it.
-pub record IsTimed {S : Type 0} (caps : List ℕ) (source : Used S) (summary : Summary) : Type 0 where
+-- these are the stretches of a history, which its segments tell
+abbrev pub AreSegmentsOf : Opening → History → List Stretch → Type 0
+AreSegmentsOf opening history stretches = stretches ≡ stretches_of opening history
+
+-- The input was read as a scenario, and this is told of a replay of it: what that is of a history, `IsOf` says.
+pub record IsTold {S T : Type 0} (IsOf : Opening → History → T → Type 0) (caps : List ℕ) (source : Used S) (told : T) : Type 0 where
   pub scenario : Scenario
   pub taken : IsTaken caps source scenario
   -- the history is the file's steps in order, and then the entries of the end. No other is.
   pub run : History
   pub drained : IsDrained (opened_with caps scenario) (file (opened_with caps scenario)) run
   pub alone : (other : History) → IsDrained (opened_with caps scenario) (file (opened_with caps scenario)) other → other ≡ run
-  -- the summary is that of that history
-  pub of_run : IsSummaryOf (opened_with caps scenario) run summary
+  -- what is told is that of that history
+  pub of_run : IsOf (opened_with caps scenario) run told
 
--- How the command `summary` ends. Out of memory alone is free.
-pub record EndsAsSummary {S K : Type 0} (caps : List ℕ) (source : Used S) (sink : Used K) (status : Status) : Type 0 where
-  -- where it is done, what was written is the summary of a replay of the input
-  pub done : status ≡ Done → IsFaultless sink × ((summary : Summary) × IsTimed caps source summary ×
-      (sink.bytes sink.after ≡ appended (sink.bytes sink.before) (summary_text summary)))
+-- How a command ends that tells something of a run, in this text of it. Out of memory alone is free.
+pub record EndsAsTold {S K T : Type 0} (IsOf : Opening → History → T → Type 0) (text : T → List ℕ) (caps : List ℕ) (source : Used S) (sink : Used K) (status : Status) : Type 0 where
+  -- where it is done, what was written is what is told of a replay of the input
+  pub done : status ≡ Done → IsFaultless sink × ((told : T) × IsTold IsOf caps source told × (sink.bytes sink.after ≡ appended (sink.bytes sink.before) (text told)))
   -- it ends in a write fault only where the sink failed, and then a prefix of that was written
-  pub write_fault : status ≡ WriteFault → Failed sink × ((summary : Summary) × IsTimed caps source summary ×
-      WritesPrefix (sink.bytes sink.before) (summary_text summary) (sink.bytes sink.after))
+  pub write_fault : status ≡ WriteFault → Failed sink × ((told : T) × IsTold IsOf caps source told × WritesPrefix (sink.bytes sink.before) (text told) (sink.bytes sink.after))
   -- its own word is never bad
   pub good_words : status ≢ BadWords
   -- else nothing is written, and it ends as a replay of the same input ends
   pub stopped : status ≢ Done → status ≢ WriteFault → EndsAsReplay caps source sink status
 
--- How a command ends that shows a run over time. What it shows of it is not said here. Out of memory alone is free.
+-- How a command ends that draws a run. What it draws is not said here. Out of memory alone is free.
 pub record EndsAsShown {S K : Type 0} (caps : List ℕ) (source : Used S) (sink : Used K) (status : Status) : Type 0 where
   -- where it is done, the input was read as a scenario, and no fault of the sink was counted
   pub done : status ≡ Done → IsFaultless sink × ((scenario : Scenario) × IsTaken caps source scenario)
@@ -61,7 +68,7 @@ pub record EndsAsShown {S K : Type 0} (caps : List ℕ) (source : Used S) (sink 
 
 -- how each command ends
 abbrev pub EndsBy : {S K : Type 0} → Command → List ℕ → Used S → Used K → Status → Type 0
-EndsBy command.Summary caps source sink status = EndsAsSummary caps source sink status
-EndsBy command.Segments caps source sink status = EndsAsShown caps source sink status
-EndsBy command.SegmentsJson caps source sink status = EndsAsShown caps source sink status
+EndsBy command.Summary caps source sink status = EndsAsTold IsSummaryOf summary_text caps source sink status
+EndsBy command.Segments caps source sink status = EndsAsTold AreSegmentsOf segments_text caps source sink status
+EndsBy command.SegmentsJson caps source sink status = EndsAsTold AreSegmentsOf segments_json_text caps source sink status
 EndsBy command.Picture caps source sink status = EndsAsShown caps source sink status

@@ -1,32 +1,56 @@
--- Written: what is so once the summary of a run was written, or what it shows over time, or the sink failed.
-use Rattle.std.specs.Prelude.{◌≡◌, ◌⊎◌, List}
+-- Written: what is so once something was told of a run, or the run was drawn, or the sink failed.
+use Rattle.std.specs.Prelude.{◌≡◌, ◌⊎◌, ℕ, List}
 use Rattle.cs_types.specs.declared.event.Step.{Step}
 use Rattle.cs_types.specs.Room.{Opening}
 use Rattle.cs_types.specs.History.{History, history_of}
 use Rattle.cs_types.specs.Drain.{IsDrained}
 use Rattle.cs_outside.specs.Device.{Rose}
-use Rattle.run_summary.specs.Summaries.{Summary, IsSummaryOf}
-use Rattle.times_report.specs.Summary.{summary_text}
+use Rattle.run_stretches.specs.declared.stretches.Stretch.{Stretch}
+use Rattle.stretch_text.specs.Table.{segments_text}
+use Rattle.stretch_text.specs.Json.{segments_json_text}
 use Rattle.scenario_input.specs.declared.status.Status.{Status}
 use Rattle.scenario_input.specs.declared.status.Status.TheVariants.{Done, WriteFault, OutOfMemory}
 use Rattle.scenario_runner.specs.Ends.{Used, IsFaultless}
 use Rattle.scenario_runner.specs.Written.{IsWritten, IsShort}
+use Rattle.view_runner.specs.Ends.{AreSegmentsOf, EndsAsTold, EndsAsShown}
+use Rattle.view_runner.specs.declared.shown.Form.{Form}
+use Rattle.view_runner.specs.declared.shown.Form.TheVariants.{Table, Json, Picture}
 
--- The steps were made, in their order, and then the entries of the end, and the summary of that run was written.
-pub record WritesSummary {K : Type 0} (opening : Opening) (steps : List Step) (sink : Used K) (ended : Status) : Type 0 where
+-- The steps were made, in their order, and then the entries of the end, and what is told of that run was written.
+pub record WritesTold {K T : Type 0} (IsOf : Opening → History → T → Type 0) (text : T → List ℕ) (opening : Opening) (steps : List Step) (sink : Used K) (ended : Status) : Type 0 where
   pub run : History
   pub drained : IsDrained opening (history_of opening steps) run
-  pub summary : Summary
-  pub of_run : IsSummaryOf opening run summary
-  pub written : IsWritten sink (summary_text summary) ended
+  pub told : T
+  pub of_run : IsOf opening run told
+  pub written : IsWritten sink (text told) ended
 
 -- it was, or there was no memory for it and nothing was written
-abbrev pub MayWriteSummary : {K : Type 0} → Opening → List Step → Used K → Status → Type 0
-MayWriteSummary opening steps sink ended = WritesSummary opening steps sink ended ⊎ IsShort sink ended
+abbrev pub MayWriteTold : {K T : Type 0} → (Opening → History → T → Type 0) → (T → List ℕ) → Opening → List Step → Used K → Status → Type 0
+MayWriteTold IsOf text opening steps sink ended = WritesTold IsOf text opening steps sink ended ⊎ IsShort sink ended
 
--- What a run shows over time was written, or the sink failed, or there was no memory for it and nothing was written.
+-- The picture of a run was written, or the sink failed, or there was no memory for it and nothing was written.
 pub record IsShown {K : Type 0} (sink : Used K) (ended : Status) : Type 0 where
   pub either : (ended ≡ Done) ⊎ ((ended ≡ WriteFault) ⊎ (ended ≡ OutOfMemory))
   pub faultless : ended ≡ Done → IsFaultless sink
   pub failed : ended ≡ WriteFault → Rose (sink.faults sink.before) (sink.faults sink.after)
   pub unwritten : ended ≡ OutOfMemory → sink.after ≡ sink.before
+
+-- ---- the forms
+
+-- these stretches were written in a form, or the sink failed
+abbrev pub IsFormWritten : {K : Type 0} → Form → List Stretch → Used K → Status → Type 0
+IsFormWritten Table stretches sink ended = IsWritten sink (segments_text stretches) ended
+IsFormWritten Json stretches sink ended = IsWritten sink (segments_json_text stretches) ended
+IsFormWritten Picture stretches sink ended = IsShown sink ended
+
+-- the steps were made, and then the entries of the end, and the stretches of that run were written in a form
+abbrev pub MayWriteForm : {K : Type 0} → Form → Opening → List Step → Used K → Status → Type 0
+MayWriteForm Table opening steps sink ended = MayWriteTold AreSegmentsOf segments_text opening steps sink ended
+MayWriteForm Json opening steps sink ended = MayWriteTold AreSegmentsOf segments_json_text opening steps sink ended
+MayWriteForm Picture opening steps sink ended = IsShown sink ended
+
+-- how a command ends that writes them in a form
+abbrev pub EndsInForm : {S K : Type 0} → Form → List ℕ → Used S → Used K → Status → Type 0
+EndsInForm Table caps source sink status = EndsAsTold AreSegmentsOf segments_text caps source sink status
+EndsInForm Json caps source sink status = EndsAsTold AreSegmentsOf segments_json_text caps source sink status
+EndsInForm Picture caps source sink status = EndsAsShown caps source sink status

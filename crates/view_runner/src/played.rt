@@ -2,10 +2,11 @@
 
 ghost use Rattle.std.specs.Prelude.{◌≡◌, ◌+◌, ◌-◌, ◌*◌, ◌^◌, ◌<◌, ◌≤◌, [], length, map, All, vec_len};
 ghost use Rattle.cs_types.specs.Scenario.{IsEvent};
+ghost use Rattle.run_summary.specs.Summaries.{IsSummaryOf};
 ghost use Rattle.times_report.specs.Summary.{summary_text};
 ghost use Rattle.scenario_runner.specs.Written.{IsWritten};
-ghost use Rattle.view_runner.specs.Ends.{EndsAsSummary};
-ghost use Rattle.view_runner.specs.Written.{MayWriteSummary};
+ghost use Rattle.view_runner.specs.Ends.{EndsAsTold};
+ghost use Rattle.view_runner.specs.Written.{MayWriteTold};
 
 use cs_outside::{Guard, Sink, Source};
 use cs_types::{Room, Step};
@@ -33,7 +34,7 @@ fn write_run<R: Room, K: Sink>(alloc: Global, mut room: R, steps: &[Step], sink:
     requires few { length steps.now < 2 ^ 25 }
     requires events { All (λ step. IsEvent (R.opening room).scenario.siblings step.event) steps.now }
 
-    ensures { MayWriteSummary (R.opening room) steps.now
+    ensures { MayWriteTold IsSummaryOf summary_text (R.opening room) steps.now
         (record { bytes = K.written; faults = K.faults; before = sink.old; after = sink.new }) result }
 {
     match summarized_run(alloc, &mut room, steps) {
@@ -56,7 +57,7 @@ pub(crate) fn summarized<R: FromScenario<Guards<G>>, S: Source, K: Sink, G: Guar
     requires untaught { All (λ guard. G.pairs guard ≡ []) guards.items }
     requires unasked { All (λ guard. G.asked guard ≡ 0) guards.items }
 
-    ensures { EndsAsSummary (map G.cap guards.items)
+    ensures { EndsAsTold IsSummaryOf summary_text (map G.cap guards.items)
         (record { bytes = S.left; faults = S.faults; before = source.old; after = source.new })
         (record { bytes = K.written; faults = K.faults; before = sink.old; after = sink.new }) result }
 {

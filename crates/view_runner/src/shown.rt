@@ -1,9 +1,11 @@
-//! The commands that show a run over time, once their words are read.
+//! The commands that show a run over time, once their words are read: what they write of its stretches.
 
 ghost use Rattle.std.specs.Prelude.{◌≡◌, ◌+◌, ◌-◌, ◌*◌, ◌^◌, ◌<◌, ◌≤◌, [], length, map, All, vec_len};
 ghost use Rattle.cs_types.specs.Scenario.{IsEvent};
-ghost use Rattle.view_runner.specs.Ends.{EndsAsShown};
-ghost use Rattle.view_runner.specs.Written.{IsShown};
+ghost use Rattle.stretch_text.specs.Table.{segments_text};
+ghost use Rattle.stretch_text.specs.Json.{segments_json_text};
+ghost use Rattle.scenario_runner.specs.Written.{IsWritten};
+ghost use Rattle.view_runner.specs.Written.{IsShown, IsFormWritten, MayWriteForm, EndsInForm};
 
 use cs_outside::{Guard, Sink, Source};
 use cs_types::{Room, Step};
@@ -28,7 +30,8 @@ pub(crate) enum Form {
 
 /// Writes the table, and says how that ended.
 fn write_table<K: Sink>(run: &RunStretches, sink: &mut K) -> Status
-    ensures { IsShown (record { bytes = K.written; faults = K.faults; before = sink.old; after = sink.new }) result }
+    ensures { IsWritten (record { bytes = K.written; faults = K.faults; before = sink.old; after = sink.new })
+        (segments_text run.now) result }
 {
     match segments(run, sink) {
         Ok(()) => Status::Done,
@@ -48,7 +51,8 @@ fn write_picture<K: Sink>(run: &RunStretches, sink: &mut K) -> Status
 
 /// Writes the lines of JSON, and says how that ended.
 fn write_json<K: Sink>(run: &RunStretches, sink: &mut K) -> Status
-    ensures { IsShown (record { bytes = K.written; faults = K.faults; before = sink.old; after = sink.new }) result }
+    ensures { IsWritten (record { bytes = K.written; faults = K.faults; before = sink.old; after = sink.new })
+        (segments_json_text run.now) result }
 {
     match segments_json(run, sink) {
         Ok(()) => Status::Done,
@@ -58,7 +62,8 @@ fn write_json<K: Sink>(run: &RunStretches, sink: &mut K) -> Status
 
 /// Writes what a run shows over time, in this form, and says how that ended.
 fn write_form<K: Sink>(form: Form, run: &RunStretches, sink: &mut K) -> Status
-    ensures { IsShown (record { bytes = K.written; faults = K.faults; before = sink.old; after = sink.new }) result }
+    ensures { IsFormWritten form run.now
+        (record { bytes = K.written; faults = K.faults; before = sink.old; after = sink.new }) result }
 {
     match form {
         Form::Table => write_table(run, sink),
@@ -81,7 +86,8 @@ fn write_shown<R: Room, K: Sink>(
         ≤ R.spare room }
     requires events { All (λ step. IsEvent (R.opening room).scenario.siblings step.event) steps.now }
 
-    ensures { IsShown (record { bytes = K.written; faults = K.faults; before = sink.old; after = sink.new }) result }
+    ensures { MayWriteForm form (R.opening room) steps.now
+        (record { bytes = K.written; faults = K.faults; before = sink.old; after = sink.new }) result }
 {
     match recorded_run(alloc, &mut room, steps) {
         Ok(run) => write_form(form, &run, sink),
@@ -104,7 +110,7 @@ pub(crate) fn shown<R: FromScenario<Guards<G>>, S: Source, K: Sink, G: Guard>(
     requires untaught { All (λ guard. G.pairs guard ≡ []) guards.items }
     requires unasked { All (λ guard. G.asked guard ≡ 0) guards.items }
 
-    ensures { EndsAsShown (map G.cap guards.items)
+    ensures { EndsInForm form (map G.cap guards.items)
         (record { bytes = S.left; faults = S.faults; before = source.old; after = source.new })
         (record { bytes = K.written; faults = K.faults; before = sink.old; after = sink.new }) result }
 {

@@ -10,7 +10,7 @@ returns-in-Ok g c =
     (record {
       run = run;
       drained = c.in-Ok.ensures.history;
-      summary = c.in-Ok.told;
+      told = c.in-Ok.told;
       of_run = subst (λ (o : Opening). IsSummaryOf o run c.in-Ok.told) c.summarized_run.ensures.opening c.in-Ok.ensures.summary;
       written = c.write_summary.ensures;
     })

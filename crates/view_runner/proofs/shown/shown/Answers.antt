@@ -1,10 +1,10 @@
 use Rattle.std.proofs.Common.{refl}
-use Rattle.view_runner.proofs.Endings.{ends_shown, ends_unshown}
+use Rattle.view_runner.proofs.Endings.{ends_in_form, ends_in_no_form}
 use Rattle.view_runner.proofs.shown.shown.Goals as goal
 
 pub returns-in-Ok : goal.returns-in-Ok
 returns-in-Ok g c =
-    ends_shown _ _ _ c.opened.result (c.in-Ok.scenario, c.in-Ok.room) c.in-Ok.scenario (g.R.Room.opening c.in-Ok.room) c.write_shown.result
+    ends_in_form c.args.form _ _ _ c.opened.result (c.in-Ok.scenario, c.in-Ok.room) c.in-Ok.scenario (g.R.Room.opening c.in-Ok.room) c.items.result.now c.write_shown.result
     (record {
       faultless = c.opened.ensures.faultless;
       failed = c.opened.ensures.failed;
@@ -17,13 +17,14 @@ returns-in-Ok g c =
     })
     c.in-Ok.is
     (record { reads = c.in-Ok.ensures.reads; taught = c.in-Ok.ensures.taught; begins = c.in-Ok.ensures.opening })
+    c.items.ensures
     c.requires.sink
     c.write_shown.ensures
 
 pub returns-in-Err : goal.returns-in-Err
 returns-in-Err g c =
     rw c.from.ensures
-    (ends_unshown _ _ _ c.opened.result c.in-Err.stop
+    (ends_in_no_form c.args.form _ _ _ c.opened.result c.in-Err.stop
     (record {
       faultless = c.opened.ensures.faultless;
       failed = c.opened.ensures.failed;
