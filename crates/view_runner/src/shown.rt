@@ -33,20 +33,14 @@ fn write_table<K: Sink>(run: &RunStretches, sink: &mut K) -> Status
     ensures { IsWritten (record { bytes = K.written; faults = K.faults; before = sink.old; after = sink.new })
         (segments_text run.now) result }
 {
-    match segments(run, sink) {
-        Ok(()) => Status::Done,
-        Err(_) => Status::WriteFault,
-    }
+    Status::of_writing(segments(run, sink))
 }
 
 /// Writes the picture, and says how that ended.
 fn write_picture<K: Sink>(run: &RunStretches, sink: &mut K) -> Status
     ensures { IsShown (record { bytes = K.written; faults = K.faults; before = sink.old; after = sink.new }) result }
 {
-    match picture(run, sink) {
-        Ok(()) => Status::Done,
-        Err(_) => Status::WriteFault,
-    }
+    Status::of_writing(picture(run, sink))
 }
 
 /// Writes the lines of JSON, and says how that ended.
@@ -54,10 +48,7 @@ fn write_json<K: Sink>(run: &RunStretches, sink: &mut K) -> Status
     ensures { IsWritten (record { bytes = K.written; faults = K.faults; before = sink.old; after = sink.new })
         (segments_json_text run.now) result }
 {
-    match segments_json(run, sink) {
-        Ok(()) => Status::Done,
-        Err(_) => Status::WriteFault,
-    }
+    Status::of_writing(segments_json(run, sink))
 }
 
 /// Writes what a run shows over time, in this form, and says how that ended.
