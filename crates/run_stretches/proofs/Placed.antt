@@ -2,7 +2,7 @@
 use Rattle.std.proofs.Common.{◌≡◌, ◌≢◌, ℕ, zero, suc, ◌+◌, ◌<◌, ◌≤◌, Bool, true, false, cond, ltb, List, [], ◌∷◌, ◌++◌, map, set, get_or, length, refl, sym, ap, ◌∙◌, subst, inl, inr, arith, Option, Some}
 use Rattle.std.specs.Prelude.{not, ◌==◌, ◌&&◌}
 use Rattle.std.proofs.lemmas.Bool.{cond-true, cond-false, and_parts, and_from, and_left, eqb-true, eq-eqb, ne_eqb, lt-ltb, le-ltb, ltb-true, both_ways, false_from_ne_true, cases_eq, cases_lt}
-use Rattle.std.proofs.lemmas.List.{append-nil, length-set, length-append, get_or-set_same, get_or-set_other, get_or_append_left}
+use Rattle.std.proofs.lemmas.List.{append-nil, length-set, length-append, get_or_default, get_or-set_same, get_or-set_other, get_or_append_left}
 use Rattle.std.proofs.Math.Seq.{get_or-append_seam}
 use Rattle.run_times.specs.declared.doing.Doing.{Doing}
 use Rattle.run_times.specs.declared.doing.Doing.TheVariants.{Offline, Runs, Idles, ForcedIdle}
@@ -13,12 +13,6 @@ use Rattle.run_stretches.specs.Stretches.{pid_run, is_same, is_alike, begins, st
 use Rattle.run_stretches.specs.Kept.{Kept, goes_on_with, place_of, last_before, last_goes_on, longer, with_one, kept_with, IsPlaced, ArePlaced}
 
 -- ---- lists
-
--- an element in its place
-pub get_or-within : {X : Type 0} (xs : List X) (i : ℕ) (d e : X) → i < length xs → get_or xs i d ≡ get_or xs i e
-get_or-within [] i d e few = absurd (omega arith)
-get_or-within (x ∷ xs) zero d e few = refl
-get_or-within (x ∷ xs) (suc i) d e few = get_or-within xs i d e (omega arith)
 
 -- a function that changes none
 pub map-same : {X : Type 0} (f : X → X) (xs : List X) → ((i : ℕ) (d : X) → i < length xs → f (get_or xs i d) ≡ get_or xs i d) → map f xs ≡ xs
@@ -35,6 +29,7 @@ set-map f (x ∷ xs) (suc i) d y few at keeps =
 
 -- ---- what goes on
 
+-- a sibling that does the same does one thing
 is_same_is : (a b : Doing) → is_same a b ≡ true → a ≡ b
 is_same_is Offline Offline is = refl
 is_same_is (Runs a) (Runs b) is = ap Runs (eqb-true a b is)
@@ -48,6 +43,7 @@ same_flag false false is = refl
 same_flag true false is = absurd cc
 same_flag false true is = absurd cc
 
+-- what a stretch has of the next one, where it goes on with that
 pub record IsAlike (one other : Stretch) : Type 0 where
   pub cpu : one.cpu ≡ other.cpu
   pub to : one.to ≡ other.from
@@ -69,7 +65,7 @@ alike stretch next is =
       pending = same_flag stretch.pending next.pending does.1;
     }
 
--- a stretch of another sibling does not
+-- a stretch of another sibling does not go on
 pub other_sibling : (stretch next : Stretch) → stretch.cpu ≢ next.cpu → goes_on_with stretch next ≡ false
 other_sibling stretch next other =
     and_left _ (is_alike stretch next) (and_left (stretch.cpu == next.cpu) (stretch.to == next.from) (ne_eqb stretch.cpu next.cpu other))
@@ -92,7 +88,7 @@ module _ (siblings : ℕ) (clock : ℕ → ℕ) (past : ℕ → Option Span) (ke
       let within : place_of kept next.cpu < length kept.stretches = omega (arith, here, few) in (
         here,
         and_from _ _ (lt-ltb (place_of kept next.cpu) (length kept.stretches) within)
-            (ap (λ (s : Stretch). goes_on_with s next) (ap (λ n. get_or kept.stretches n next) here ∙ get_or-within kept.stretches i next d few) ∙ goes),
+            (ap (λ (s : Stretch). goes_on_with s next) (ap (λ n. get_or kept.stretches n next) here ∙ get_or_default kept.stretches i next d few) ∙ goes),
       )
 
   -- So each that goes on lasts longer, and where none does, the next one is one more.
@@ -179,13 +175,26 @@ module _ (siblings cpu : ℕ) (span : Span) (clock clock_after : ℕ → ℕ) (p
       ]
 
   -- the stretch with which the sibling has gone on
-  pub is_last : (kept_after : Kept) (stretch : Stretch) → stretch.cpu ≡ cpu → stretch.to ≡ next.to → IsPlaced siblings clock_after kept_after (place_of kept_after cpu) stretch
+  is_last : (kept_after : Kept) (stretch : Stretch) → stretch.cpu ≡ cpu → stretch.to ≡ next.to → IsPlaced siblings clock_after kept_after (place_of kept_after cpu) stretch
   is_last kept_after stretch here to =
       record {
         cpu = omega (arith, here, below);
         ended = omega (arith, to, ends, ap clock_after here);
         last = λ _. ap (place_of kept_after) here;
       }
+
+  -- what goes on next: at this sibling, and at the others as before
+  goes_next : (after : Kept) →
+      ((y : Span) → y.room.clock ≡ clock_after cpu → last_goes_on after (stretch_in y cpu) ≡ not (begins (past_after cpu) y cpu)) →
+      ((c : ℕ) (y : Span) → c ≢ cpu → last_goes_on after (stretch_in y c) ≡ last_goes_on kept (stretch_in y c)) →
+      (c : ℕ) (y : Span) → c < siblings → y.room.clock ≡ clock_after c → last_goes_on after (stretch_in y c) ≡ not (begins (past_after c) y c)
+  goes_next after goes_here goes_there c y few now =
+      elim (cases_eq c cpu) [
+        | inl here ↦ subst (λ (n : ℕ). last_goes_on after (stretch_in y n) ≡ not (begins (past_after n) y n)) (sym here) (goes_here y (now ∙ ap clock_after here))
+        | inr other ↦
+            goes_there c y other ∙ placed.goes_on c y few (now ∙ (on.others c other).0)
+            ∙ ap (λ (o : Option Span). not (begins o y c)) (sym (on.others c other).1)
+      ]
 
   -- it lasts longer
   placed_longer : last_goes_on kept next ≡ true → ArePlaced siblings clock_after past_after (longer next kept)
@@ -202,13 +211,7 @@ module _ (siblings cpu : ℕ) (span : Span) (clock clock_after : ℕ → ℕ) (p
                   subst (IsPlaced siblings clock_after after i) (sym (get_or-set_other kept.stretches place i moved_on d other))
                   (stays after i (get_or kept.stretches i d) (placed.last i d before) (λ _. refl))
             ];
-        goes_on = λ c y few now.
-            elim (cases_eq c cpu) [
-              | inl here ↦ subst (λ (n : ℕ). last_goes_on after (stretch_in y n) ≡ not (begins (past_after n) y n)) (sym here) (goes_here y (now ∙ ap clock_after here))
-              | inr other ↦
-                  goes_there c y other ∙ placed.goes_on c y few (now ∙ (on.others c other).0)
-                  ∙ ap (λ (o : Option Span). not (begins o y c)) (sym (on.others c other).1)
-            ];
+        goes_on = goes_next after goes_here goes_there;
       } where
         place : ℕ
         place = place_of kept next.cpu
@@ -244,7 +247,7 @@ module _ (siblings cpu : ℕ) (span : Span) (clock clock_after : ℕ → ℕ) (p
                     | inl here ↦
                         ap (λ (s : Stretch). goes_on_with s (stretch_in y c)) (ap (λ n. get_or (set kept.stretches place moved_on) n (stretch_in y c)) here ∙ get_or-set_same kept.stretches place moved_on (stretch_in y c) within)
                         ∙ other_sibling moved_on (stretch_in y c) (λ e. other (sym e ∙ was.cpu ∙ same))
-                        ∙ sym (last_goes_on-at kept (stretch_in y c) place stretch here within (get_or-within kept.stretches place (stretch_in y c) next within)
+                        ∙ sym (last_goes_on-at kept (stretch_in y c) place stretch here within (get_or_default kept.stretches place (stretch_in y c) next within)
                         ∙ other_sibling stretch (stretch_in y c) (λ e. other (sym e ∙ was.cpu ∙ same)))
                     | inr apart ↦
                         ap (λ (s : Stretch). goes_on_with s (stretch_in y c)) (get_or-set_other kept.stretches place (place_of kept c) moved_on (stretch_in y c) apart)
@@ -269,13 +272,7 @@ module _ (siblings cpu : ℕ) (span : Span) (clock clock_after : ℕ → ℕ) (p
                   subst (IsPlaced siblings clock_after after i) (sym (ap (λ n. get_or (kept.stretches ++ next ∷ []) n d) here ∙ get_or-append_seam kept.stretches next [] d))
                   (subst (λ (n : ℕ). IsPlaced siblings clock_after after n next) (place_here ∙ sym here) (is_last after next same refl))
             ];
-        goes_on = λ c y few now.
-            elim (cases_eq c cpu) [
-              | inl here ↦ subst (λ (n : ℕ). last_goes_on after (stretch_in y n) ≡ not (begins (past_after n) y n)) (sym here) (goes_here y (now ∙ ap clock_after here))
-              | inr other ↦
-                  goes_there c y other ∙ placed.goes_on c y few (now ∙ (on.others c other).0)
-                  ∙ ap (λ (o : Option Span). not (begins o y c)) (sym (on.others c other).1)
-            ];
+        goes_on = goes_next after goes_here goes_there;
       } where
         count : ℕ
         count = length kept.stretches
