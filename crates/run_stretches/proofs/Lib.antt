@@ -1,4 +1,5 @@
 pub mod Extended
+pub mod Gapless
 pub mod Marked
 pub mod Placed
 pub mod Recorded

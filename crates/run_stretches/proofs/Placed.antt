@@ -6,10 +6,9 @@ use Rattle.std.proofs.lemmas.List.{append-nil, length-set, length-append, get_or
 use Rattle.std.proofs.Math.Seq.{get_or-append_seam}
 use Rattle.run_times.specs.declared.doing.Doing.{Doing}
 use Rattle.run_times.specs.declared.doing.Doing.TheVariants.{Offline, Runs, Idles, ForcedIdle}
-use Rattle.run_times.specs.Doing.{doing_of, is_pending}
 use Rattle.run_times.specs.Times.{Span}
 use Rattle.run_stretches.specs.declared.stretches.Stretch.{Stretch}
-use Rattle.run_stretches.specs.Stretches.{pid_run, is_same, is_alike, begins, stretch_in}
+use Rattle.run_stretches.specs.Stretches.{is_same, is_alike, begins, stretch_in}
 use Rattle.run_stretches.specs.Kept.{Kept, goes_on_with, place_of, last_before, last_goes_on, longer, with_one, kept_with, IsPlaced, ArePlaced}
 
 -- ---- lists
@@ -43,26 +42,41 @@ same_flag false false is = refl
 same_flag true false is = absurd cc
 same_flag false true is = absurd cc
 
+-- in two stretches a sibling does the same
+pub record DoesTheSame (one other : Stretch) : Type 0 where
+  pub pid : one.pid ≡ other.pid
+  pub doing : one.doing ≡ other.doing
+  pub pending : one.pending ≡ other.pending
+
+pub does_the_same : (one other : Stretch) → is_alike one other ≡ true → DoesTheSame one other
+does_the_same one other is =
+    let does = and_parts _ (cond one.pending other.pending (not other.pending)) is in
+    let runs = and_parts (one.pid == other.pid) (is_same one.doing other.doing) does.0 in
+    record {
+      pid = eqb-true one.pid other.pid runs.0;
+      doing = is_same_is one.doing other.doing runs.1;
+      pending = same_flag one.pending other.pending does.1;
+    }
+
+-- so they are alike to the same others
+pub alike_after : (one other next : Stretch) → DoesTheSame one other → is_alike one next ≡ is_alike other next
+alike_after one other next same = λ i.
+    (same.pid i == next.pid) && is_same (same.doing i) next.doing && cond (same.pending i) next.pending (not next.pending)
+
 -- what a stretch has of the next one, where it goes on with that
 pub record IsAlike (one other : Stretch) : Type 0 where
   pub cpu : one.cpu ≡ other.cpu
   pub to : one.to ≡ other.from
-  pub pid : one.pid ≡ other.pid
-  pub doing : one.doing ≡ other.doing
-  pub pending : one.pending ≡ other.pending
+  pub does : DoesTheSame one other
 
 pub alike : (stretch next : Stretch) → goes_on_with stretch next ≡ true → IsAlike stretch next
 alike stretch next is =
     let ends = and_parts _ (is_alike stretch next) is in
     let place = and_parts (stretch.cpu == next.cpu) (stretch.to == next.from) ends.0 in
-    let does = and_parts _ (cond stretch.pending next.pending (not next.pending)) ends.1 in
-    let runs = and_parts (stretch.pid == next.pid) (is_same stretch.doing next.doing) does.0 in
     record {
       cpu = eqb-true stretch.cpu next.cpu place.0;
       to = eqb-true stretch.to next.from place.1;
-      pid = eqb-true stretch.pid next.pid runs.0;
-      doing = is_same_is stretch.doing next.doing runs.1;
-      pending = same_flag stretch.pending next.pending does.1;
+      does = does_the_same stretch next ends.1;
     }
 
 -- a stretch of another sibling does not go on
@@ -115,15 +129,12 @@ module _ (siblings : ℕ) (clock : ℕ → ℕ) (past : ℕ → Option Span) (ke
         (false_from_ne_true _ (λ goes. both_ways (last_goes_on kept next) is (only_last next placed at i d few goes).1)))))
 
 -- what goes on with the next stretch of a sibling after this one
-goes_like : (stretch : Stretch) (span next : Span) (cpu : ℕ) → stretch.cpu ≡ cpu → stretch.to ≡ next.room.clock → stretch.pid ≡ pid_run span.room cpu →
-    stretch.doing ≡ doing_of span.room cpu → stretch.pending ≡ is_pending span.room cpu →
+goes_like : (stretch : Stretch) (span next : Span) (cpu : ℕ) → stretch.cpu ≡ cpu → stretch.to ≡ next.room.clock → DoesTheSame stretch (stretch_in span cpu) →
     goes_on_with stretch (stretch_in next cpu) ≡ not (begins (Some span) next cpu)
-goes_like stretch span next cpu same to pid doing pending =
+goes_like stretch span next cpu same to does =
     let after = stretch_in next cpu in
-    let like : is_alike stretch after ≡ is_alike (stretch_in span cpu) after =
-    (λ i. (pid i == after.pid) && is_same (doing i) after.doing && cond (pending i) after.pending (not after.pending)) in
     by_test (stretch.cpu == cpu) (stretch.to == next.room.clock) (is_alike stretch after) (is_alike (stretch_in span cpu) after)
-    (eq-eqb stretch.cpu cpu same) (eq-eqb stretch.to next.room.clock to) like where
+    (eq-eqb stretch.cpu cpu same) (eq-eqb stretch.to next.room.clock to) (alike_after stretch (stretch_in span cpu) after does) where
       twice : (b : Bool) → b ≡ not (not b)
       twice true = refl
       twice false = refl
@@ -235,7 +246,7 @@ module _ (siblings cpu : ℕ) (span : Span) (clock clock_after : ℕ → ℕ) (p
         goes_here y now =
             last_goes_on-at after (stretch_in y cpu) place moved_on (ap (place_of kept) (sym same)) (omega (arith, within, length-set kept.stretches place moved_on))
             (get_or-set_same kept.stretches place moved_on (stretch_in y cpu) within)
-            ∙ goes_like moved_on span y cpu (was.cpu ∙ same) (ends ∙ sym now) (was.pid ∙ ap (λ (s : Stretch). s.pid) is) (was.doing ∙ ap (λ (s : Stretch). s.doing) is) (was.pending ∙ ap (λ (s : Stretch). s.pending) is)
+            ∙ goes_like moved_on span y cpu (was.cpu ∙ same) (ends ∙ sym now) (subst (DoesTheSame moved_on) is (record { pid = was.does.pid; doing = was.does.doing; pending = was.does.pending }))
             ∙ ap (λ (o : Option Span). not (begins o y cpu)) (sym on.took)
 
         goes_there : (c : ℕ) (y : Span) → c ≢ cpu → last_goes_on after (stretch_in y c) ≡ last_goes_on kept (stretch_in y c)
@@ -291,7 +302,7 @@ module _ (siblings cpu : ℕ) (span : Span) (clock clock_after : ℕ → ℕ) (p
         goes_here y now =
             last_goes_on-at after (stretch_in y cpu) count next place_here (omega (arith, length-append kept.stretches (next ∷ [])))
             (get_or-append_seam kept.stretches next [] (stretch_in y cpu))
-            ∙ goes_like next span y cpu same (ends ∙ sym now) (ap (λ (s : Stretch). s.pid) is) (ap (λ (s : Stretch). s.doing) is) (ap (λ (s : Stretch). s.pending) is)
+            ∙ goes_like next span y cpu same (ends ∙ sym now) (subst (DoesTheSame next) is (record { pid = refl; doing = refl; pending = refl }))
             ∙ ap (λ (o : Option Span). not (begins o y cpu)) (sym on.took)
 
         goes_there : (c : ℕ) (y : Span) → c ≢ cpu → last_goes_on after (stretch_in y c) ≡ last_goes_on kept (stretch_in y c)

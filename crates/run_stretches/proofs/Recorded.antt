@@ -20,8 +20,9 @@ use Rattle.run_times.proofs.Clock.{total_time-clock}
 use Rattle.run_times.proofs.Laws.{spans_of-drained}
 use Rattle.run_times.proofs.Spans.{spans_of-advance, spans_of-still, total_time-push}
 use Rattle.run_times.proofs.Shown.{is_on}
-use Rattle.run_stretches.specs.Stretches.{stretch_in, stretches_of}
+use Rattle.run_stretches.specs.Stretches.{stretch_in, stretches_of, IsGapless, stretches_on}
 use Rattle.run_stretches.specs.Kept.{Kept, Marks, AreMarksOf, AreKept, AreStretchesOf, IsRecordOf}
+use Rattle.run_stretches.proofs.Gapless.{gapless_in}
 use Rattle.run_stretches.proofs.Placed.{none_goes_on}
 
 -- ---- an advance changes no queue
@@ -136,7 +137,14 @@ pub kept_alike : (opening same : Opening) (past now : History) (entry : Entry) (
 kept_alike opening same past now entry kept marks alike one_more told =
     subst (λ (o : Opening). IsRecordOf o now kept marks) (sym alike) (subst (λ (h : History). IsRecordOf opening h kept marks) (sym one_more) (told entry refl))
 
--- the clock of a room fits, so what is kept are its stretches
+-- the clock of a room fits, so they are kept
 pub all_kept : (opening : Opening) (history : History) (clock : ℕ) (kept : Kept) → clock ≡ (fold_of opening history).clock → clock < 2 ^ 64 →
-    AreStretchesOf opening history kept → kept.stretches ≡ stretches_of opening history
-all_kept opening history clock kept now fits is = (is (omega (arith, fits, now, total_time-clock opening history))).stretches
+    AreStretchesOf opening history kept → AreKept opening.scenario.siblings (spans_of opening history) kept
+all_kept opening history clock kept now fits are = are (omega (arith, fits, now, total_time-clock opening history))
+
+-- without a gap
+pub gapless_of : (opening : Opening) (history : History) (kept : Kept) (cpu : ℕ) → cpu < opening.scenario.siblings → AreKept opening.scenario.siblings (spans_of opening history) kept →
+    IsGapless 0 (stretches_on cpu (stretches_of opening history)) (fold_of opening history).clock
+gapless_of opening history kept cpu below are =
+    subst (IsGapless 0 (stretches_on cpu (stretches_of opening history))) (total_time-clock opening history)
+    (gapless_in opening.scenario.siblings cpu below (spans_of opening history) are.follow)

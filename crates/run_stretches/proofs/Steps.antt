@@ -106,7 +106,7 @@ moved_new span count (cpu ∷ cpus) lasts =
     (false_from_ne_true _ (λ goes. absurd (omega (arith, lasts, (alike (stretch_in span cpu) next goes).to)))) in
     cc (still, moved_new span count cpus lasts)
 
-range-more : (n : ℕ) → range_with_len 0 (n + 1) ≡ range_with_len 0 n ++ n ∷ []
+pub range-more : (n : ℕ) → range_with_len 0 (n + 1) ≡ range_with_len 0 n ++ n ∷ []
 range-more n =
     sym (map-same same (range_with_len 0 (n + 1)) (λ i d few. refl))
     ∙ map-range_with_len_more same 0 n n (zero-add n)

@@ -1,5 +1,5 @@
 -- Stretches: what each sibling did over time. Time passes in advances alone, so what is so before one is so in all of it.
-use Rattle.std.specs.Prelude.{ℕ, ◌+◌, ◌==◌, ◌&&◌, not, Bool, true, false, List, [], ◌∷◌, ◌++◌, map, filter, if◌then◌else◌, Option, Some, None}
+use Rattle.std.specs.Prelude.{◌≡◌, ℕ, ◌<◌, ◌+◌, ◌==◌, ◌&&◌, not, Bool, true, false, List, [], ◌∷◌, ◌++◌, map, filter, if◌then◌else◌, Option, Some, None}
 use Rattle.std.specs.List.{range_with_len, take_while}
 use Rattle.std.specs.Option.{option_map_or}
 use Rattle.cs_types.specs.Room.{Opening, RoomState, running_on, is_online}
@@ -66,3 +66,12 @@ stretches_in siblings past (span ∷ later) =
 -- the stretches of a history
 abbrev pub stretches_of : Opening → History → List Stretch
 stretches_of opening history = stretches_in opening.scenario.siblings None (spans_of opening history)
+
+-- those of a sibling
+abbrev pub stretches_on : ℕ → List Stretch → List Stretch
+stretches_on cpu stretches = filter (λ stretch. stretch.cpu == cpu) stretches
+
+-- these stretches follow one another without a gap from one clock to another, and each lasts for some time
+abbrev pub IsGapless : ℕ → List Stretch → ℕ → Type 0
+IsGapless from [] to = from ≡ to
+IsGapless from (stretch ∷ stretches) to = (stretch.from ≡ from) × (from < stretch.to) × IsGapless stretch.to stretches to

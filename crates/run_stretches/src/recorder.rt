@@ -7,7 +7,7 @@ ghost use Rattle.cs_types.specs.Room.{Opening, RoomState};
 ghost use Rattle.cs_types.specs.declared.event.Event.TheVariants.{Advance};
 ghost use Rattle.cs_types.specs.History.{fold_of};
 ghost use Rattle.run_times.specs.Times.{Span, total_time};
-ghost use Rattle.run_stretches.specs.Stretches.{stretches_of};
+ghost use Rattle.run_stretches.specs.Stretches.{stretches_of, IsGapless, stretches_on};
 ghost use Rattle.run_stretches.specs.Kept.{AreMarksOf, AreKept, AreStretchesOf, IsRecordOf};
 
 use crate::kept::KeptStretches;
@@ -135,7 +135,9 @@ impl Recorder {
     /// What the run showed, in a room where it is over.
     pub(crate) fn close<R: Room>(self, room: &R) -> RunStretches
         requires { AreStretchesOf (R.opening room.now) (R.history room.now) self.stretches }
-        ensures { result ≡ stretches_of (R.opening room.now) (R.history room.now) }
+        ensures stretches { result ≡ stretches_of (R.opening room.now) (R.history room.now) }
+        ensures gapless { (cpu : ℕ) → cpu < (R.opening room.now).scenario.siblings →
+            IsGapless 0 (stretches_on cpu result) (fold_of (R.opening room.now) (R.history room.now)).clock }
     {
         let Recorder {
             stretches,

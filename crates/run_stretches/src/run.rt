@@ -1,10 +1,10 @@
 //! A run with what it shows over time.
 
-ghost use Rattle.std.specs.Prelude.{◌≡◌, ◌+◌, ◌*◌, ◌≤◌, [], All, IfOk, OnOk, length};
+ghost use Rattle.std.specs.Prelude.{◌≡◌, ◌+◌, ◌*◌, ◌<◌, ◌≤◌, ℕ, [], All, IfOk, OnOk, length};
 ghost use Rattle.cs_types.specs.Scenario.{IsEvent, IsPlayable};
-ghost use Rattle.cs_types.specs.History.{history_of};
+ghost use Rattle.cs_types.specs.History.{fold_of, history_of};
 ghost use Rattle.cs_types.specs.Drain.{IsDrained};
-ghost use Rattle.run_stretches.specs.Stretches.{stretches_of};
+ghost use Rattle.run_stretches.specs.Stretches.{stretches_of, IsGapless, stretches_on};
 ghost use Rattle.run_stretches.specs.Kept.{IsRecordOf};
 
 use crate::recorder::Recorder;
@@ -50,6 +50,10 @@ pub fn recorded_run<R: Room>(
         IsDrained (R.opening room.old) (history_of (R.opening room.old) steps.now) (R.history room.new)) }
     ensures opening { R.opening room.new ≡ R.opening room.old }
     ensures stretches { IfOk result (λ run. run ≡ stretches_of (R.opening room.new) (R.history room.new)) }
+
+    // Those of a sibling follow one another without a gap, from 0 to what the clock shows at the end.
+    ensures gapless { IfOk result (λ run. (cpu : ℕ) → cpu < (R.opening room.new).scenario.siblings →
+        IsGapless 0 (stretches_on cpu run) (fold_of (R.opening room.new) (R.history room.new)).clock) }
 {
     let mut recorder = Recorder::none(alloc, room.siblings())?;
     play(room, steps, &mut recorder)?;
