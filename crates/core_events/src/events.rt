@@ -1,12 +1,14 @@
 //! What each event does to the state.
 
-ghost use Rattle.std.specs.Prelude.{◌≡◌, ◌<◌, length};
+ghost use Rattle.std.specs.Prelude.{◌≡◌, ◌+◌, ◌<◌, ◌≤◌, length};
+ghost use Rattle.cs_types.specs.declared.reply.Pick.{Pick};
 ghost use Rattle.cs_types.specs.Step.{child_at_home, requeue, with_policy};
 ghost use Rattle.task_table.specs.Table.{Table};
 ghost use Rattle.core_lanes.specs.Lanes.{Beside, room_of};
 ghost use Rattle.core_clock.specs.Moments.{MayQueue, TouchesAt};
 ghost use Rattle.cookie_steal.specs.Tries.{reply_of as steal_reply};
 ghost use Rattle.cpu_hotplug.specs.Hotplugs.{reply_of as hotplug_reply};
+ghost use Rattle.core_pick.specs.Comparisons.{most_of_schedule, Compares};
 ghost use Rattle.core_tasks.specs.Steps.{Makes};
 ghost use Rattle.core_events.specs.Ready.{IsReady, IsReadyAt, IsReadyFor};
 
@@ -97,7 +99,10 @@ fn resched<Q: SiblingQueue, G: Guard, L: Ledger>(
     steps: &mut Steps<L>,
 ) -> Reply
     requires { IsReadyAt cpu state.old }
-    ensures { Makes state.old state.new (Event.Resched cpu) result }
+    ensures makes { Makes state.old state.new (Event.Resched cpu) result }
+
+    // The queues compare for it what they do for a schedule.
+    ensures counted { Compares (state.old.core, state.old.tasks) (λ most. steps.new ≤ steps.old + most_of_schedule (length state.old.core.lanes.items) most) }
 {
     match schedule(&mut state.core, &mut state.tasks, cpu, state.clock, steps) {
         Some(pick) => Reply::Picked(pick),
@@ -112,7 +117,11 @@ fn turn<Q: SiblingQueue, G: Guard, L: Ledger>(
     steps: &mut Steps<L>,
 ) -> Reply
     requires { IsReadyAt cpu state.old }
-    ensures { Makes state.old state.new (Event.Turn cpu) result }
+    ensures makes { Makes state.old state.new (Event.Turn cpu) result }
+
+    // Where it schedules, the queues compare what they do for a schedule.
+    ensures counted { (pick : Pick) → result ≡ Reply.Picked pick →
+        Compares (state.old.core, state.old.tasks) (λ most. steps.new ≤ steps.old + most_of_schedule (length state.old.core.lanes.items) most) }
 {
     if !state.core.is_online(cpu) {
         return Reply::Offline;

@@ -12,10 +12,10 @@ by_event : {Q G : Type 0} {g : Ghosts Q} {old new : State Q G g} {event other : 
 by_event {old = old} {new = new} {answer = answer} is made = subst (λ (e : Event). Makes old new e answer) (sym is) made
 
 pub returns-in-Turn : goal.returns-in-Turn
-returns-in-Turn g c = by_event c.in-Turn.is c.turn.ensures
+returns-in-Turn g c = by_event c.in-Turn.is c.turn.ensures.makes
 
 pub returns-in-Resched : goal.returns-in-Resched
-returns-in-Resched g c = by_event c.in-Resched.is c.resched.ensures
+returns-in-Resched g c = by_event c.in-Resched.is c.resched.ensures.makes
 
 pub returns-in-Block : goal.returns-in-Block
 returns-in-Block g c = by_event c.in-Block.is c.block.ensures

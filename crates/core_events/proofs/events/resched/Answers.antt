@@ -17,8 +17,8 @@ use Rattle.core_events.proofs.events.resched.Goals as goal
 pub schedule-requires : goal.schedule-requires
 schedule-requires g c = may_schedule c.args.state.now c.args.cpu c.requires.cpu c.requires.ready
 
-pub returns-in-Some : goal.returns-in-Some
-returns-in-Some g c =
+pub returns-in-Some-clause-makes : goal.returns-in-Some-clause-makes
+returns-in-Some-clause-makes g c =
     let old = c.args.state.now in
     let cpu = c.args.cpu in
     let pick = c.in-Some.pick in
@@ -41,8 +41,8 @@ returns-in-Some g c =
       stays = lifted old (c.schedule.new.core, c.schedule.new.table) schedules.stays;
     }
 
-pub returns-in-None : goal.returns-in-None
-returns-in-None g c =
+pub returns-in-None-clause-makes : goal.returns-in-None-clause-makes
+returns-in-None-clause-makes g c =
     let old = c.args.state.now in
     let cpu = c.args.cpu in
     let fresh = is_fresh_by (state_numbers old) in

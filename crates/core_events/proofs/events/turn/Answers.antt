@@ -29,18 +29,18 @@ turn_by room fresh cpu pending =
     cond pending (picked Picked (schedule room fresh cpu))
     (cond (eqb (sibling_of room cpu).place 0) (record { reply = Nothing; room = room }) (try_steal room cpu (stolen room cpu)))
 
-pub returns-then-not-is_online : goal.returns-then-not-is_online
-returns-then-not-is_online g c = leaves_all c.args.state.now (Turn c.args.cpu) Offline (λ intervals. untouched (state_numbers c.args.state.now)) (λ intervals.
+pub returns-then-not-is_online-clause-makes : goal.returns-then-not-is_online-clause-makes
+returns-then-not-is_online-clause-makes g c = leaves_all c.args.state.now (Turn c.args.cpu) Offline (λ intervals. untouched (state_numbers c.args.state.now)) (λ intervals.
     let room = room_with intervals c.args.state.now in
     when_offline room c.args.cpu (turn room (is_fresh_by (state_numbers c.args.state.now)) c.args.cpu)
     (sym (c.is_online.ensures (beside_of intervals c.args.state.now) c.args.state.now.tasks) ∙ c.if-not-is_online.true))
 
-pub returns-then-index : goal.returns-then-index
-returns-then-index g c =
+pub returns-then-index-clause-makes : goal.returns-then-index-clause-makes
+returns-then-index-clause-makes g c =
     let old = c.args.state.now in
     let cpu = c.args.cpu in
     let fresh = is_fresh_by (state_numbers old) in
-    let made = c.resched.ensures in
+    let made = c.resched.ensures.makes in
     record {
       step = λ intervals.
           let room = room_with intervals old in
@@ -61,8 +61,8 @@ returns-then-index g c =
       stays = made.stays;
     }
 
-pub returns : goal.returns
-returns g c =
+pub returns-clause-makes : goal.returns-clause-makes
+returns-clause-makes g c =
     let old = c.args.state.now in
     let cpu = c.args.cpu in
     let fresh = is_fresh_by (state_numbers old) in
