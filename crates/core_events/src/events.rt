@@ -1,6 +1,6 @@
 //! What each event does to the state.
 
-ghost use Rattle.std.specs.Prelude.{◌≡◌, ◌+◌, ◌<◌, ◌≤◌, length};
+ghost use Rattle.std.specs.Prelude.{◌≡◌, ◌<◌, length};
 ghost use Rattle.cs_types.specs.declared.reply.Pick.{Pick};
 ghost use Rattle.cs_types.specs.Step.{child_at_home, requeue, with_policy};
 ghost use Rattle.task_table.specs.Table.{Table};
@@ -8,7 +8,7 @@ ghost use Rattle.core_lanes.specs.Lanes.{Beside, room_of};
 ghost use Rattle.core_clock.specs.Moments.{MayQueue, TouchesAt};
 ghost use Rattle.cookie_steal.specs.Tries.{reply_of as steal_reply};
 ghost use Rattle.cpu_hotplug.specs.Hotplugs.{reply_of as hotplug_reply};
-ghost use Rattle.core_pick.specs.Comparisons.{most_of_schedule, Compares};
+ghost use Rattle.core_pick.specs.Comparisons.{ComparesForSchedule};
 ghost use Rattle.core_tasks.specs.Steps.{Makes};
 ghost use Rattle.core_events.specs.Ready.{IsReady, IsReadyAt, IsReadyFor};
 
@@ -102,7 +102,7 @@ fn resched<Q: SiblingQueue, G: Guard, L: Ledger>(
     ensures makes { Makes state.old state.new (Event.Resched cpu) result }
 
     // The queues compare for it what they do for a schedule.
-    ensures counted { Compares (state.old.core, state.old.tasks) (λ most. steps.new ≤ steps.old + most_of_schedule (length state.old.core.lanes.items) most) }
+    ensures counted { ComparesForSchedule (state.old.core, state.old.tasks) steps.old steps.new }
 {
     match schedule(&mut state.core, &mut state.tasks, cpu, state.clock, steps) {
         Some(pick) => Reply::Picked(pick),
@@ -120,8 +120,7 @@ fn turn<Q: SiblingQueue, G: Guard, L: Ledger>(
     ensures makes { Makes state.old state.new (Event.Turn cpu) result }
 
     // Where it schedules, the queues compare what they do for a schedule.
-    ensures counted { (pick : Pick) → result ≡ Reply.Picked pick →
-        Compares (state.old.core, state.old.tasks) (λ most. steps.new ≤ steps.old + most_of_schedule (length state.old.core.lanes.items) most) }
+    ensures counted { (pick : Pick) → result ≡ Reply.Picked pick → ComparesForSchedule (state.old.core, state.old.tasks) steps.old steps.new }
 {
     if !state.core.is_online(cpu) {
         return Reply::Offline;

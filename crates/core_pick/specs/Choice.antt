@@ -4,7 +4,7 @@ use Rattle.std.specs.List.{range_with_len}
 use Rattle.std.specs.Option.{option_and_then}
 use Rattle.cs_types.specs.Room.{RoomState, is_online}
 use Rattle.cs_types.specs.Order.{fair_class, idle_class, foremost, outranks}
-use Rattle.cs_types.specs.Selection.{first_on, snapshot_of, is_run, pid_of, cookie_of, choice, is_forced, forced_count, occupation_of, renews_snapshots, select_for, task_after_selection}
+use Rattle.cs_types.specs.Selection.{first_on, snapshot_of, is_run, pid_of, cookie_of, choice, is_forced, forced_count, occupation_of, renews_snapshots, select_for, sibling_after_selection, task_after_selection}
 use Rattle.task_table.specs.Table.{Table}
 use Rattle.core_lanes.specs.declared.lane.Lane.{Lane}
 use Rattle.core_lanes.specs.Lanes.{lane_state}
@@ -124,6 +124,11 @@ pub record IsTold (room : RoomState) (core selector cpu : ℕ) (selects : Bool) 
   pub itself : selects ≡ (cpu == selector)
   pub occupied : occupation ≡ occupation_of room core
   pub renewed : renews ≡ renews_snapshots room core
+
+-- told that, a sibling is as the selection leaves it
+abbrev pub IsHanded : {Q : Type 0} → RoomState → ℕ → ℕ → ℕ → Bool → ℕ → Bool → Lane Q → Lane Q → Type 0
+IsHanded room core selector cpu selects occupation renews old new =
+    IsTold room core selector cpu selects occupation renews → lane_state new ≡ sibling_after_selection room core selector cpu (lane_state old)
 
 -- what a selection for the core leaves as it is in a sibling: its own number and its queue
 abbrev pub kept_in_selection : {Q : Type 0} → Lane Q → ℕ × Q

@@ -1,5 +1,5 @@
 -- Schedules: what a schedule asks of a core and its table, and what it makes of them.
-use Rattle.std.specs.Prelude.{◌≡◌, ℕ, ◌+◌, ◌^◌, ◌<◌, ◌==◌, ◌&&◌, not, if◌then◌else◌, ◌≤◌, Bool, List, length, Option, None, IfSome, slice_index_or}
+use Rattle.std.specs.Prelude.{◌≡◌, ℕ, ◌+◌, ◌^◌, ◌<◌, ◌==◌, ◌&&◌, not, if◌then◌else◌, Bool, List, length, Option, None, IfSome, slice_index_or}
 use Rattle.cs_types.specs.declared.reply.Pick.{Pick}
 use Rattle.cs_types.specs.declared.queue.Queued.{Queued}
 use Rattle.cs_types.specs.Room.{RoomState, sibling_of}
@@ -13,7 +13,7 @@ use Rattle.core_lanes.specs.Numbers.{Numbers, numbers_of, numbers_in, booked, to
 use Rattle.core_lanes.specs.Changes.{Stays, BecomesCharged, IsBooked}
 use Rattle.core_lanes.specs.Charges.{IsPaid}
 use Rattle.core_pick.specs.declared.choice.Choice.{Choice}
-use Rattle.core_pick.specs.Comparisons.{most_of_schedule, Compares}
+use Rattle.core_pick.specs.Comparisons.{ComparesForSchedule}
 use Rattle.core_pick.specs.Questions.{AsksAll}
 
 -- ---- what decides an adoption
@@ -78,7 +78,7 @@ pub record Schedules {Q : Type 0} {g : Ghosts Q} (now : ℕ) (old new : Core Q g
 -- and its queues compare no more often than a schedule may
 pub record SchedulesWithin {Q : Type 0} {g : Ghosts Q} (now : ℕ) (old new : Core Q g × Table) (cpu : ℕ) (chosen : Pick) (before after : ℕ) (change : RoomState → Scheduled) : Type 0 where
   pub schedules : Schedules now old new cpu chosen change
-  pub counted : Compares old (λ most. after ≤ before + most_of_schedule (length old.0.lanes.items) most)
+  pub counted : ComparesForSchedule old before after
 
 -- the same of a schedule that charges the open interval, unless it adopts
 pub record ChargesAndSchedules {Q : Type 0} {g : Ghosts Q} (now : ℕ) (old new : Core Q g × Table) (cpu : ℕ) (chosen : Pick) (change : RoomState → Scheduled) : Type 0 where

@@ -6,7 +6,7 @@ ghost use Rattle.cs_types.specs.Selection.{is_plain, adopt, pick_plain, select, 
 ghost use Rattle.task_table.specs.Table.{Table};
 ghost use Rattle.core_lanes.specs.Lanes.{Beside, room_of};
 ghost use Rattle.core_lanes.specs.Numbers.{numbers_of};
-ghost use Rattle.core_pick.specs.Comparisons.{most_of_schedule, Compares};
+ghost use Rattle.core_pick.specs.Comparisons.{most_of_schedule, Compares, ComparesForSchedule};
 ghost use Rattle.core_pick.specs.Questions.{KeepsFirst};
 ghost use Rattle.core_pick.specs.Schedules.{may_adopt_by, adoptable_by, MayPick, MaySchedule, MaySelect, Selects, Schedules, SchedulesWithin, ChargesAndSchedules};
 
@@ -210,7 +210,7 @@ fn adopt_or_pick_anew<Q: SiblingQueue, L: Ledger>(
     requires { MaySchedule now cpu (core.old, table.old) }
     ensures schedules { ChargesAndSchedules now (core.old, table.old) (core.new, table.new) cpu result
         (λ room. adopt_or_pick_anew room (may_adopt_by cpu (numbers_of (core.old, table.old))) cpu (sibling_of room cpu).waiting) }
-    ensures counted { Compares (core.old, table.old) (λ most. steps.new ≤ steps.old + most_of_schedule (length core.old.lanes.items) most) }
+    ensures counted { ComparesForSchedule (core.old, table.old) steps.old steps.new }
 {
     match adoptable(core, cpu) {
         Some(waiting) => adopt(core, cpu, waiting),
@@ -239,7 +239,7 @@ pub fn schedule<Q: SiblingQueue, L: Ledger>(
         (λ room. schedule room (may_adopt_by cpu (numbers_of (core.old, table.old))) cpu)) }
 
     // How many comparisons the queues make for it, where none is longer than so many tasks.
-    ensures counted { Compares (core.old, table.old) (λ most. steps.new ≤ steps.old + most_of_schedule (length core.old.lanes.items) most) }
+    ensures counted { ComparesForSchedule (core.old, table.old) steps.old steps.new }
 {
     if !core.is_online(cpu) {
         return None;

@@ -2,9 +2,8 @@
 
 ghost use Rattle.std.specs.Prelude.{◌≡◌, ℕ, if◌then◌else◌};
 ghost use Rattle.cs_types.specs.Room.{RoomState};
-ghost use Rattle.cs_types.specs.Selection.{pid_of, is_fair_task, choice, sibling_after_selection};
-ghost use Rattle.core_lanes.specs.Lanes.{lane_state};
-ghost use Rattle.core_pick.specs.Choice.{choice_of, kept_in_selection, lane_running, IsTold};
+ghost use Rattle.cs_types.specs.Selection.{pid_of, is_fair_task, choice};
+ghost use Rattle.core_pick.specs.Choice.{choice_of, kept_in_selection, lane_running, IsHanded};
 
 use crate::choice::Choice;
 use core_lanes::Lane;
@@ -43,7 +42,7 @@ fn take<Q: Drop>(
     renews: bool,
 )
     ensures state { (room : RoomState) (cookie selector cpu : ℕ) → chosen ≡ pid_of (choice room cookie cpu) → is_fair ≡ is_fair_task (choice room cookie cpu) →
-        IsTold room cookie selector cpu selects occupation renews → lane_state lane.new ≡ sibling_after_selection room cookie selector cpu (lane_state lane.old) }
+        IsHanded room cookie selector cpu selects occupation renews lane.old lane.new }
     ensures own { kept_in_selection lane.new ≡ kept_in_selection lane.old }
 {
     let runs_it = lane.run == chosen;
@@ -72,8 +71,7 @@ pub fn hand<Q: Drop>(
     occupation: u8,
     renews: bool,
 )
-    ensures state { (room : RoomState) (cookie selector cpu : ℕ) → given.now ≡ choice_of (choice room cookie cpu) →
-        IsTold room cookie selector cpu selects occupation renews → lane_state lane.new ≡ sibling_after_selection room cookie selector cpu (lane_state lane.old) }
+    ensures state { (room : RoomState) (cookie selector cpu : ℕ) → given.now ≡ choice_of (choice room cookie cpu) → IsHanded room cookie selector cpu selects occupation renews lane.old lane.new }
     ensures own { kept_in_selection lane.new ≡ kept_in_selection lane.old }
 {
     take(
