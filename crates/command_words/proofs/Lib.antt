@@ -1,5 +1,2 @@
-pub mod Plain
-pub mod Parses
-pub mod Spelled
 pub mod Found
-pub mod Subcommands
+pub mod Seeds

@@ -2,11 +2,11 @@
 
 ghost use Rattle.std.specs.Prelude.{◌≡◌, ◌↔◌, ℕ, IsTrue, Some, option_map};
 ghost use Rattle.command_words.specs.declared.command.Command.TheVariants.{Replay, Drill};
-ghost use Rattle.command_words.specs.Asks.{Asks};
-ghost use Rattle.command_words.specs.Program.{Spells, words_by};
+ghost use Rattle.command_words.specs.Asks.{Asks, HasSeed, words_of};
+ghost use Rattle.plain_words.specs.Forms.{words_by};
 
-use crate::parser::parsed;
 use crate::seed::canonical;
+use plain_words::{CommandForm, read_words};
 use std::alloc::Global;
 
 /// What the program is asked to do.
@@ -20,9 +20,26 @@ pub enum Command {
     Drill { seed: u32 },
 }
 
+/// The forms of the commands.
+const FORMS: [CommandForm<'static>; 3] = [
+    CommandForm {
+        name: "replay",
+        takes_value: false,
+    },
+    CommandForm {
+        name: "race",
+        takes_value: false,
+    },
+    CommandForm {
+        name: "drill",
+        takes_value: true,
+    },
+];
+
 /// The command of this name and seed, if there is one.
-pub(crate) fn named(name: &str, seed: Option<&str>) -> Option<Command>
-    ensures { (command : Command) → (result ≡ Some command) ↔ Spells command (words_by name.now (option_map (λ text. text.now) seed.entry)) }
+fn named(name: &str, seed: Option<&str>) -> Option<Command>
+    ensures { (command : Command) → (result ≡ Some command)
+        ↔ ((words_by name.now (option_map (λ text. text.now) seed.entry) ≡ words_of command) × HasSeed command) }
 {
     match (name, seed) {
         ("replay", None) => Some(Command::Replay),
@@ -32,24 +49,15 @@ pub(crate) fn named(name: &str, seed: Option<&str>) -> Option<Command>
     }
 }
 
-/// The command that the words spell letter by letter. It takes no memory.
-fn spelled(words: &[String]) -> Option<Command>
-    ensures asked { (command : Command) → (result ≡ Some command) ↔ Asks command words.now }
-{
-    match words {
-        [name] => named(name, None),
-        [name, seed] => named(name, Some(seed)),
-        _ => None,
-    }
-}
-
 /// The command that the words ask for, or `None` where they are no command's. A seed is a decimal number below
 /// 4,294,967,296, with no sign and no leading 0 but in `0` itself. Where there is no memory to parse the words,
 /// they are looked at letter by letter, so the answer is the same with little memory and with much.
+#[tactic(auto, using(crate::proofs::Seeds::plain_decimal))]
 pub fn command_of(alloc: Global, words: &[String]) -> Option<Command>
     ensures asked { (command : Command) → (result ≡ Some command) ↔ Asks command words.now }
 {
-    parsed(alloc, words).unwrap_or_else(|_| spelled(words))
+    let (name, seed) = read_words(alloc, "coresched", &FORMS, words)?;
+    named(name, seed)
 }
 
 /// Whether the words ask for a replay.

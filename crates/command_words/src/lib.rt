@@ -3,7 +3,6 @@
 #![tactic(auto)]
 
 mod command;
-mod parser;
 mod seed;
 
 pub use command::{Command, command_of, drill_seed, is_replay};

@@ -1,9 +1,10 @@
 //! The commands, each by its word.
 
-ghost use Rattle.std.specs.Prelude.{◌≡◌, ◌↔◌, Some};
+ghost use Rattle.std.specs.Prelude.{◌≡◌, ◌↔◌, [], ◌∷◌, Some, option_map};
+ghost use Rattle.plain_words.specs.Forms.{words_by};
 ghost use Rattle.view_words.specs.Asks.{Asks, word_of};
 
-use crate::parser::parsed;
+use plain_words::{CommandForm, read_words};
 use std::alloc::Global;
 
 /// What the program is asked to show of a run.
@@ -19,25 +20,36 @@ pub enum Command {
     Picture,
 }
 
-/// The command of this word.
-pub(crate) fn named(word: &str) -> Option<Command>
-    ensures { (command : Command) → (result ≡ Some command) ↔ (word.now ≡ word_of command) }
-{
-    match word {
-        "summary" => Some(Command::Summary),
-        "segments" => Some(Command::Segments),
-        "segments-json" => Some(Command::SegmentsJson),
-        "picture" => Some(Command::Picture),
-        _ => None,
-    }
-}
+/// The forms of the commands.
+const FORMS: [CommandForm<'static>; 4] = [
+    CommandForm {
+        name: "summary",
+        takes_value: false,
+    },
+    CommandForm {
+        name: "segments",
+        takes_value: false,
+    },
+    CommandForm {
+        name: "segments-json",
+        takes_value: false,
+    },
+    CommandForm {
+        name: "picture",
+        takes_value: false,
+    },
+];
 
-/// The command that the words spell letter by letter. It takes no memory.
-fn spelled(words: &[String]) -> Option<Command>
-    ensures asked { (command : Command) → (result ≡ Some command) ↔ Asks command words.now }
+/// The command of this name, where no value follows it.
+fn named(name: &str, value: Option<&str>) -> Option<Command>
+    ensures { (command : Command) → (result ≡ Some command)
+        ↔ (words_by name.now (option_map (λ text. text.now) value.entry) ≡ word_of command ∷ []) }
 {
-    match words {
-        [word] => named(word),
+    match (name, value) {
+        ("summary", None) => Some(Command::Summary),
+        ("segments", None) => Some(Command::Segments),
+        ("segments-json", None) => Some(Command::SegmentsJson),
+        ("picture", None) => Some(Command::Picture),
         _ => None,
     }
 }
@@ -48,5 +60,6 @@ fn spelled(words: &[String]) -> Option<Command>
 pub fn command_of(alloc: Global, words: &[String]) -> Option<Command>
     ensures asked { (command : Command) → (result ≡ Some command) ↔ Asks command words.now }
 {
-    parsed(alloc, words).unwrap_or_else(|_| spelled(words))
+    let (name, value) = read_words(alloc, "coresched_view", &FORMS, words)?;
+    named(name, value)
 }

@@ -3,6 +3,5 @@
 #![tactic(auto)]
 
 mod command;
-mod parser;
 
 pub use command::{Command, command_of};

@@ -1,0 +1,3 @@
+pub mod Plain
+pub mod Parses
+pub mod Read

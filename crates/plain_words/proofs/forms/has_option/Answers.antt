@@ -1,0 +1,12 @@
+use Rattle.std.proofs.Common.{rules, tests, ◌∙◌}
+use Rattle.std.specs.String.{string_bytes}
+use Rattle.std.proofs.lemmas.Iterator.{YieldsList-from_slice}
+use Rattle.std.proofs.lemmas.Iterator.Search.{any_from_yields_List}
+use Rattle.clap.proofs.WalkLemmas.{list_any-map}
+use Rattle.plain_words.specs.Forms.{is_option}
+use Rattle.plain_words.proofs.forms.has_option.Goals as goal
+
+pub returns : goal.returns
+returns c =
+    any_from_yields_List (λ word. is_option (string_bytes word)) _ _ c.any.result c.any.ensures.ran (YieldsList-from_slice c.args.words.now cc) (λ word is q called. search (rules, tests))
+    ∙ list_any-map is_option string_bytes c.args.words.now
