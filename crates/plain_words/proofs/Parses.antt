@@ -9,12 +9,9 @@ use Rattle.std.proofs.lemmas.Bool.{or_parts}
 use Rattle.std.proofs.lemmas.Slice.Eq.{bytes_eq-Decides}
 use Rattle.std.proofs.lemmas.List.{append-nil, append_assoc}
 use Rattle.clap.specs.Walk.{Held, Names, Row, Text, Walk, after_step, answers_to, finished, first_of, idle, nothing_held, settled, subcommand_met, subcommand_or_other, walk, walked}
-use Rattle.clap.specs.Kinds.{Kinds, or_else}
-use Rattle.clap.specs.Faults.{check_fault, defaults_fault, entered_fault, fault_of, built_fault, level_fault, other_fault, settle_fault, step_fault, stray_fault, turn_fault, walk_fault}
-use Rattle.clap.specs.Simple.{App, Shape, built, built_leaf, entered, inherited, label_of, names_of, new_shape, rows_at, subcommand_of}
-use Rattle.clap.specs.Kinds.{HasKind}
-use Rattle.clap.specs.Faults.{has_free_rules, is_free_app, is_simple_and_free}
-use Rattle.clap.specs.Simple.{HasMatchesOf, is_buildable, is_ready, is_ready_leaf, is_simple_leaf, subcommand_rows_of}
+use Rattle.clap.specs.Kinds.{HasKind, Kinds, or_else}
+use Rattle.clap.specs.Faults.{built_fault, check_fault, defaults_fault, entered_fault, fault_of, has_free_rules, is_free_app, is_simple_and_free, level_fault, other_fault, settle_fault, step_fault, stray_fault, turn_fault, walk_fault}
+use Rattle.clap.specs.Simple.{App, HasMatchesOf, Shape, built, built_leaf, entered, inherited, is_buildable, is_ready, is_ready_leaf, is_simple_leaf, label_of, names_of, new_shape, rows_at, subcommand_of, subcommand_rows_of}
 use Rattle.clap.specs.Values.{kind_of}
 use Rattle.clap.specs.declared.parser.matches.ArgMatches.{ArgMatches}
 use Rattle.clap.specs.declared.error.Error.{Error}
@@ -29,6 +26,7 @@ use Rattle.plain_words.proofs.Plain.{ready, turn_of_plain, walk_of_plain}
 
 -- ---- the grammar as it is built
 
+-- the program alone
 abbrev top : Bool → Text → Shape
 top is_leaf name = record (strict (new_shape name)) { is_leaf = is_leaf; is_built = true }
 
@@ -39,6 +37,7 @@ leaf name takes_value = built_leaf (inherited (top true []) (command_of name tak
 abbrev leaf_of : CommandForm → Shape
 leaf_of form = leaf form.name.now form.takes_value
 
+-- the program with its commands
 abbrev whole : Bool → Text → List CommandForm → App
 whole is_leaf name forms = record { top = top is_leaf name; subs = map leaf_of forms }
 
@@ -154,6 +153,7 @@ module _ (is_leaf : Bool) (name : Text) (forms : List CommandForm) where
   stops word before (next ∷ words) =
       stops word (before ++ next ∷ []) words ∙ ap (λ (all : List Text). record start { stopped = Some (word, all) }) (append_assoc before (next ∷ []) words)
 
+  -- and no name is a call for help
   no_help : (same : Bool) (kinds : Kinds) → or_else (if same && false then kinds else []) [] ≡ []
   no_help true kinds = refl
   no_help false kinds = refl
@@ -269,6 +269,7 @@ module _ (is_leaf : Bool) (name : Text) (forms : List CommandForm) where
 
   -- ---- the answers of a parse
 
+  -- the grammar is one of those of which the parser says what it makes of all words
   is_free : is_simple_and_free (program is_leaf name forms) ≡ true
   is_free =
       ap (λ (app : App). (is_buildable (program is_leaf name forms) && (is_ready app.top && list_all is_ready_leaf app.subs)) && is_free_app app) (built_is is_leaf name forms)

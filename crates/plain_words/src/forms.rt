@@ -46,7 +46,7 @@ fn spelled<'a>(forms: &[CommandForm], words: &'a [String]) -> Option<(&'a str, O
     let (name, values) = words.split_first()?;
     let name = name.as_str();
     let form = form_of(forms, name)?;
-    let value = values.first().map(|value| value.as_str());
+    let value = values.first().map(String::as_str);
     (values.len() == usize::from(form.takes_value)).then_some((name, value))
 }
 
