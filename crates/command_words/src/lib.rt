@@ -1,5 +1,5 @@
-//! The words of the command line: which command they ask for. It is separate so that nothing else stands on
-//! the parser of words.
+//! The words of the command line: which command they ask for. It is separate, since it knows nothing of what the
+//! commands do.
 #![tactic(auto)]
 
 mod command;
