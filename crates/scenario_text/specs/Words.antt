@@ -128,7 +128,7 @@ errno_word Enodev = codes "ENODEV"
 errno_word Einval = codes "EINVAL"
 errno_word Ebusy = codes "EBUSY"
 
--- the answer to the question whether a tick asked for a reschedule
+-- the answer to a question, such as whether a tick asked for a reschedule
 abbrev pub answer_word : Bool → Word
 answer_word true = codes "yes"
 answer_word false = codes "no"
