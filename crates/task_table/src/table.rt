@@ -205,7 +205,7 @@ impl TaskTable {
         }
     }
 
-    /// At most so many tasks has the group, a count from 0 to the limit. It compares none of them.
+    /// At most so many tasks has the group, a count, and maybe fewer. It compares none of them.
     pub fn most_in(&self, group: Group) -> u16
         ensures most { length (filter (is_in_group group) self.now.tasks) ≤ result }
     {
