@@ -1,4 +1,5 @@
 pub mod Stays
+pub mod Counted
 pub mod Queues
 pub mod AtHome
 pub mod Replaced

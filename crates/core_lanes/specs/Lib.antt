@@ -4,5 +4,6 @@ pub mod Lanes
 pub mod Exchanges
 pub mod Numbers
 pub mod Changes
+pub mod Comparisons
 pub mod Account
 pub mod Charges

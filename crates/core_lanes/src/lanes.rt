@@ -57,6 +57,7 @@ impl<Q: SiblingQueue> Core<Q> {
     ghost use Rattle.core_lanes.specs.Lanes.{Beside, room_of, Agree, AgreeAway, AgreesAt, AreHeld, AreHeldBut, ChangesQueues, Replaces, Knows, MayDequeue, MayEnqueue, MayTell, IsFirstCore, IsAtHome, CanMove, MayEnter};
     ghost use Rattle.core_lanes.specs.Numbers.{numbers_of, is_fresh_by};
     ghost use Rattle.core_lanes.specs.Changes.{Changes, Touches, Enters};
+    ghost use Rattle.core_lanes.specs.Comparisons.{ComparesFor};
 
     /// The siblings, which are 1 to 16, before the first step: each is online and runs idle, and no number is
     /// above 0. Each queue can take `tasks`, a count. This call alone takes memory.
@@ -162,7 +163,8 @@ impl<Q: SiblingQueue> Core<Q> {
     #[inline(always)]
     fn take<L: Ledger>(&mut self, table: &TaskTable, task: &Task, steps: &mut Steps<L>)
         requires { IsAtHome (AreHeld (self.old, table.now)) (self.old, table.now) task.now }
-        ensures { ChangesQueues self.old self.new (AreHeldBut task.now.spec.pid (self.new, table.now)) }
+        ensures queues { ChangesQueues self.old self.new (AreHeldBut task.now.spec.pid (self.new, table.now)) }
+        ensures counted { ComparesFor 1 (self.old, table.now) steps.old steps.new }
     {
         if task.queued {
             self.lanes[task.home as usize]
@@ -175,7 +177,8 @@ impl<Q: SiblingQueue> Core<Q> {
     fn put<L: Ledger>(&mut self, table: &TaskTable, task: &Task, steps: &mut Steps<L>)
         requires home { IsAtHome (AreHeldBut task.now.spec.pid (self.old, table.now)) (self.old, table.now) task.now }
         requires stamp { IsTrue task.now.queued → HasOwnStamp table.now.tasks task.now }
-        ensures { ChangesQueues self.old self.new (AreHeld (self.new, table.now)) }
+        ensures queues { ChangesQueues self.old self.new (AreHeld (self.new, table.now)) }
+        ensures counted { ComparesFor 1 (self.old, table.now) steps.old steps.new }
     {
         if task.queued {
             self.lanes[task.home as usize]
@@ -188,7 +191,8 @@ impl<Q: SiblingQueue> Core<Q> {
     #[inline(always)]
     pub fn change<L: Ledger>(&mut self, table: &mut TaskTable, task: Task, steps: &mut Steps<L>)
         requires { Knows (self.old, table.old) task }
-        ensures { Changes (self.old, table.old) (self.new, table.new) (λ room. with_task room task) }
+        ensures changes { Changes (self.old, table.old) (self.new, table.new) (λ room. with_task room task) }
+        ensures counted { ComparesFor 2 (self.old, table.old) steps.old steps.new }
     {
         let old = table.find(task.spec.pid).unwrap();
         if is_alike(old, &task) {
@@ -209,7 +213,8 @@ impl<Q: SiblingQueue> Core<Q> {
         steps: &mut Steps<L>,
     )
         requires { IsAtHome (AreHeld (self.old, table.now)) (self.old, table.now) task.now }
-        ensures { ChangesQueues self.old self.new (AreHeld (self.new, record table.now { tasks = given_cookie task.now cookie table.now.tasks })) }
+        ensures queues { ChangesQueues self.old self.new (AreHeld (self.new, record table.now { tasks = given_cookie task.now cookie table.now.tasks })) }
+        ensures counted { ComparesFor 1 (self.old, table.now) steps.old steps.new }
     {
         if task.queued {
             self.lanes[task.home as usize]
@@ -229,7 +234,8 @@ impl<Q: SiblingQueue> Core<Q> {
     )
         requires there { IsOf table.old.tasks task.now }
         requires agree { Agree (self.old, table.old) }
-        ensures { Replaces (record task.now { cookie = cookie }) (self.old, table.old) (self.new, table.new) }
+        ensures replaces { Replaces (record task.now { cookie = cookie }) (self.old, table.old) (self.new, table.new) }
+        ensures counted { ComparesFor 1 (self.old, table.old) steps.old steps.new }
     {
         if task.cookie == cookie {
             return;
@@ -249,7 +255,8 @@ impl<Q: SiblingQueue> Core<Q> {
     )
         requires fair { IsTrue (is_fair task.now) }
         requires home { IsAtHome (AreHeld (self.old, table.now)) (self.old, table.now) task.now }
-        ensures { ChangesQueues self.old self.new (AreHeld (self.new, record table.now { tasks = given_vtime task.now vtime table.now.tasks })) }
+        ensures queues { ChangesQueues self.old self.new (AreHeld (self.new, record table.now { tasks = given_vtime task.now vtime table.now.tasks })) }
+        ensures counted { ComparesFor 2 (self.old, table.now) steps.old steps.new }
     {
         if task.queued {
             self.lanes[task.home as usize]
@@ -270,8 +277,9 @@ impl<Q: SiblingQueue> Core<Q> {
     )
         requires fair { IsSomeAnd (find (has_pid pid) table.old.tasks) (λ task. IsTrue (is_fair task)) }
         requires agree { Agree (self.old, table.old) }
-        ensures { (task : SomeTask) → find (has_pid pid) table.old.tasks ≡ Some task →
+        ensures changes { (task : SomeTask) → find (has_pid pid) table.old.tasks ≡ Some task →
             Changes (self.old, table.old) (self.new, table.new) (λ room. with_task room (record task { vtime = vtime })) }
+        ensures counted { ComparesFor 2 (self.old, table.old) steps.old steps.new }
     {
         let task = table.find(pid).unwrap();
         self.set_vtime_in_queue(table, task, vtime, steps);
@@ -301,7 +309,8 @@ impl<Q: SiblingQueue> Core<Q> {
         steps: &mut Steps<L>,
     )
         requires { MayEnter pid from to (self.old, table.old) }
-        ensures { Enters pid from to (self.old, table.old) (self.new, table.new) }
+        ensures enters { Enters pid from to (self.old, table.old) (self.new, table.new) }
+        ensures counted { ComparesFor 1 (self.old, table.old) steps.old steps.new }
     {
         self.place(table, pid, from, to);
         let entered = table.find(pid).unwrap();
@@ -312,7 +321,8 @@ impl<Q: SiblingQueue> Core<Q> {
     #[inline(always)]
     pub fn dequeue<L: Ledger>(&mut self, table: &mut TaskTable, task: Task, steps: &mut Steps<L>)
         requires { MayDequeue (self.old, table.old) task }
-        ensures { Touches 1 (self.old, table.old) (self.new, table.new) (λ room. dequeue room task) }
+        ensures touches { Touches 1 (self.old, table.old) (self.new, table.new) (λ room. dequeue room task) }
+        ensures counted { ComparesFor 2 (self.old, table.old) steps.old steps.new }
     {
         let mut asleep = task;
         asleep.queued = false;
@@ -324,7 +334,8 @@ impl<Q: SiblingQueue> Core<Q> {
     #[inline(always)]
     pub fn enqueue<L: Ledger>(&mut self, table: &mut TaskTable, task: Task, steps: &mut Steps<L>)
         requires { MayEnqueue (self.old, table.old) task }
-        ensures { Touches 1 (self.old, table.old) (self.new, table.new) (λ room. enqueue room task) }
+        ensures touches { Touches 1 (self.old, table.old) (self.new, table.new) (λ room. enqueue room task) }
+        ensures counted { ComparesFor 2 (self.old, table.old) steps.old steps.new }
     {
         let stamp = self.next_stamp;
         self.next_stamp += 1;

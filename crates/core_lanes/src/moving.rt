@@ -32,6 +32,7 @@ impl<Q: SiblingQueue> Core<Q> {
     ghost use Rattle.core_lanes.specs.Exchanges.{MayPlace, MayExchange};
     ghost use Rattle.core_lanes.specs.Lanes.{MayTell, AreHeld, ChangesQueues};
     ghost use Rattle.core_lanes.specs.Changes.{Places};
+    ghost use Rattle.core_lanes.specs.Comparisons.{ComparesFor};
 
     /// Tells the tasks queued on the sibling by their pids, by rising stamp, in a list that has as many places.
     pub fn tell_queued(&self, table: &TaskTable, cpu: Cpu, movers: &mut [Pid])
@@ -67,7 +68,8 @@ impl<Q: SiblingQueue> Core<Q> {
         steps: &mut Steps<L>,
     )
         requires { MayExchange from to (self.old, table.now) }
-        ensures { ChangesQueues self.old self.new (AreHeld (self.new, table.now)) }
+        ensures queues { ChangesQueues self.old self.new (AreHeld (self.new, table.now)) }
+        ensures counted { ComparesFor 3 (self.old, table.now) steps.old steps.new }
     {
         swap_queues(&mut self.lanes, from as usize, to as usize);
         self.lanes[to as usize]

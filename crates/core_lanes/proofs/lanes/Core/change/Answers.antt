@@ -1,4 +1,4 @@
-use Rattle.std.proofs.Common.{◌≡◌, ◌<◌, ℕ, List, refl, sym, subst, ap, ◌∙◌, map, length}
+use Rattle.std.proofs.Common.{◌≡◌, ◌<◌, ◌≤◌, ◌+◌, ◌*◌, arith, ℕ, List, refl, sym, subst, ap, ◌∙◌, map, length}
 use Rattle.std.specs.Prelude.{option_copied}
 use Rattle.std.proofs.lemmas.Bool.{eqb-true}
 use Rattle.cs_types.specs.declared.task.Task.{Task}
@@ -16,6 +16,8 @@ use Rattle.core_lanes.proofs.Alike.{queued_at-alike}
 use Rattle.core_lanes.proofs.Queues.{others-replaced}
 use Rattle.core_lanes.proofs.Replaced.{is_of, own_stamp, agree-replaced, identities-replaced}
 use Rattle.core_lanes.proofs.Stays.{found_in, as_many_bare}
+use Rattle.cs_types.proofs.Spots.{replaced_by}
+use Rattle.std.proofs.lemmas.List.{length-map}
 use Rattle.core_lanes.proofs.lanes.Core.change.Goals as goal
 
 -- a task that is known fits in the place of the one with its pid
@@ -42,8 +44,8 @@ changes core now table after task knows replaced =
       };
     }
 
-pub returns-then-is_alike : goal.returns-then-is_alike
-returns-then-is_alike g c =
+pub returns-then-is_alike-clause-changes : goal.returns-then-is_alike-clause-changes
+returns-then-is_alike-clause-changes g c =
     let task = c.args.task in
     let before = c.args.table.now in
     let agree = c.requires.known.apart.agree in
@@ -81,11 +83,11 @@ put-requires-clause-home g c =
     let before = c.args.table.now in
     let pid : c.unwrap-old.result.now.spec.pid ≡ task.spec.pid =
     eqb-true _ task.spec.pid (find_passes (has_pid task.spec.pid) before.tasks c.unwrap-old.result.now (sym c.find.ensures.task ∙ ap option_copied c.unwrap-old.ensures)) in
-    let held = subst (λ n. AreHeldBut n (c.take.new.self, before)) pid c.take.ensures.held in
+    let held = subst (λ n. AreHeldBut n (c.take.new.self, before)) pid c.take.ensures.queues.held in
     record {
       table = c.change-2.ensures.sound;
       there = rw c.change-2.ensures.changed (is_of c.args.task apart.old c.args.table.now.tasks apart.there);
-      home = subst (λ n. c.args.task.home < n) (sym (as_many_bare c.args.self.now c.take.new.self c.take.ensures.bare)) apart.fits.home;
+      home = subst (λ n. c.args.task.home < n) (sym (as_many_bare c.args.self.now c.take.new.self c.take.ensures.queues.bare)) apart.fits.home;
       held = subst (λ (table : Table). AreHeldBut task.spec.pid (c.take.new.self, table)) (sym c.change-2.ensures.changed)
           (λ cpu queue at. subst (λ qs. g.Q.SiblingQueue.holds queue before.limit qs) (sym (others-replaced task before.tasks cpu)) (held cpu queue at));
     }
@@ -96,14 +98,20 @@ put-requires-clause-stamp g c queued =
     subst (λ (table : Table). HasOwnStamp table.tasks c.args.task) (sym c.change-2.ensures.changed)
     (own_stamp c.args.task apart.old c.args.table.now.tasks apart.there (c.requires.stamp queued).own)
 
-pub returns : goal.returns
-returns g c =
+pub returns-clause-changes : goal.returns-clause-changes
+returns-clause-changes g c =
     let core = c.args.self.now in
     let before = c.args.table.now in
-    let same = c.put.ensures.bare ∙ c.take.ensures.bare in
+    let same = c.put.ensures.queues.bare ∙ c.take.ensures.queues.bare in
     let changed = c.change-2.ensures.changed in
     changes core c.put.new.self before c.change-2.new.self c.args.task c.requires (record {
       table = changed;
       bare = same;
-      agree = agree-replaced core c.put.new.self before c.change-2.new.self c.args.task (fits (core, before) c.args.task c.requires) same changed c.change-2.ensures.sound c.put.ensures.held;
+      agree = agree-replaced core c.put.new.self before c.change-2.new.self c.args.task (fits (core, before) c.args.task c.requires) same changed c.change-2.ensures.sound c.put.ensures.queues.held;
     })
+
+pub returns-clause-counted : goal.returns-clause-counted
+returns-clause-counted g c =
+    let many = ap (λ (t : Table). length t.tasks) c.change-2.ensures.changed ∙ length-map c.args.table.now.tasks (replaced_by c.args.task) in
+    let put = subst (λ n. c.put.new.steps ≤ c.take.new.steps + 1 * g.Q.SiblingQueue.most_compared n) many c.put.ensures.counted in
+    omega (arith, c.take.ensures.counted, put)

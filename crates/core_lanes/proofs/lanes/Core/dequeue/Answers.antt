@@ -14,11 +14,11 @@ change-requires g c =
       stamp = λ queued. absurd cc;
     }
 
-pub returns : goal.returns
-returns g c =
+pub returns-clause-touches : goal.returns-clause-touches
+returns-clause-touches g c =
     let touch = c.touch.ensures c.change.new.table in
     record {
-      room = λ beside. touch.room beside ∙ c.change.ensures.room beside;
-      numbers = touch.numbers ∙ ap (touched 1) c.change.ensures.numbers;
-      stays = both_stay c.change.ensures.stays touch.stays;
+      room = λ beside. touch.room beside ∙ c.change.ensures.changes.room beside;
+      numbers = touch.numbers ∙ ap (touched 1) c.change.ensures.changes.numbers;
+      stays = both_stay c.change.ensures.changes.stays touch.stays;
     }

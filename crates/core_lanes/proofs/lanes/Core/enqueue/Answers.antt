@@ -16,13 +16,13 @@ change-requires g c =
       stamp = λ queued. stamp_next c.args.self.now.next_stamp c.args.table.now.tasks _ refl known.apart.agree.stamped;
     }
 
-pub returns : goal.returns
-returns g c =
+pub returns-clause-touches : goal.returns-clause-touches
+returns-clause-touches g c =
     let touch = c.touch.ensures c.change.new.table in
     let next = c.args.self.now.next_stamp in
     let later : next ≤ next + 1 = omega arith in
     record {
-      room = λ beside. touch.room beside ∙ c.change.ensures.room beside;
-      numbers = touch.numbers ∙ ap (touched 1) c.change.ensures.numbers;
-      stays = both_stay (stamped_later c.args.self.now _ c.args.table.now refl later) (both_stay c.change.ensures.stays touch.stays);
+      room = λ beside. touch.room beside ∙ c.change.ensures.changes.room beside;
+      numbers = touch.numbers ∙ ap (touched 1) c.change.ensures.changes.numbers;
+      stays = both_stay (stamped_later c.args.self.now _ c.args.table.now refl later) (both_stay c.change.ensures.changes.stays touch.stays);
     }

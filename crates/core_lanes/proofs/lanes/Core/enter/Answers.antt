@@ -1,4 +1,4 @@
-use Rattle.std.proofs.Common.{Option, set, length-set, true, Some, None, Bor, ◌≡◌, ℕ, ◌<◌, [], cond, List, inl, inr, refl, sym, subst, ap, ◌∙◌, map, length}
+use Rattle.std.proofs.Common.{arith, ◌≤◌, ◌+◌, ◌*◌, Option, set, length-set, true, Some, None, Bor, ◌≡◌, ℕ, ◌<◌, [], cond, List, inl, inr, refl, sym, subst, ap, ◌∙◌, map, length}
 use Rattle.std.specs.Prelude.{◌==◌, All, IsTrue, find, slice_get, option_copied}
 use Rattle.std.specs.Global.{Vec}
 use Rattle.std.specs.Option.{IsSome}
@@ -23,6 +23,7 @@ use Rattle.core_lanes.proofs.Replaced.{is_of, own_stamp}
 use Rattle.core_lanes.proofs.Stays.{some_beside, queue_of, queue_at, stamp_next}
 use Rattle.core_lanes.proofs.lanes.Core.enter.Given.{Over}
 use Rattle.core_lanes.proofs.lanes.Core.enter.Goals as goal
+use Rattle.core_lanes.proofs.Counted.{of_one, as_many_live}
 use Rattle.core_lanes.proofs.lanes.Core.enter.Goals.{After-unwrap-entered}
 
 -- what the queues hold while the tasks of a sibling leave it, but for the task with this pid
@@ -182,9 +183,9 @@ put-requires g c =
       holds = placed.here_but lane.queue (queue_at c.place.new.self.lanes.items c.args.to lane placed.within c.index_mut.ensures.value);
     }
 
-pub returns : goal.returns
-returns g c =
-    let entered = one g (goal.at.returns g c).After-unwrap-entered in
+pub returns-clause-enters : goal.returns-clause-enters
+returns-clause-enters g c =
+    let entered = one g (goal.at.returns-clause-enters g c).After-unwrap-entered in
     let placed = c.place.ensures.placed in
     let apart = placed.agree in
     let then = c.place.new.self in
@@ -214,3 +215,9 @@ returns g c =
             (subst (λ qs. g.Q.SiblingQueue.holds c.put.new.self table.limit qs) (sym (cond-false (to == from) [] (queued_at table.tasks to) (ne_eqb to from c.requires.elsewhere))) c.put.ensures.holds)));
       };
     }
+
+pub returns-clause-counted : goal.returns-clause-counted
+returns-clause-counted g c =
+    let many = as_many_live (c.args.self.now, c.args.table.now) (c.place.new.self, c.place.new.table) c.place.ensures.placed.kept in
+    let put : c.put.new.steps ≤ c.args.steps.now + 1 * g.Q.SiblingQueue.most_compared (length c.place.new.table.tasks) = omega (arith, c.put.ensures.counted, of_one g.Q.SiblingQueue.most_compared g.met.Q.SiblingQueue.rises c.place.new.table.tasks c.args.to) in
+    subst (λ n. c.put.new.steps ≤ c.args.steps.now + 1 * g.Q.SiblingQueue.most_compared n) many put

@@ -11,6 +11,7 @@ use Rattle.core_lanes.specs.declared.lane.Lane.{Lane}
 use Rattle.core_lanes.proofs.Lists.{items-as_many}
 use Rattle.core_lanes.proofs.Stays.{number_of, queue_of, queue_at}
 use Rattle.core_lanes.proofs.Queues.{held-set}
+use Rattle.core_lanes.proofs.Counted.{of_one}
 use Rattle.core_lanes.proofs.lanes.Core.exchange.Goals as goal
 
 -- what was written over all siblings is what is there, where it says the same of each
@@ -32,8 +33,8 @@ renew-requires g c =
     ∙ sym swap.second ∙ ap (λ ls. slice_get (map queue_of ls) c.args.to) (sym is)
     ∙ queue_at lanes c.args.to lane (omega (arith, many, c.requires.other)) c.index_mut.ensures.value)
 
-pub returns : goal.returns
-returns g c =
+pub returns-clause-queues : goal.returns-clause-queues
+returns-clause-queues g c =
     let table = c.args.table.now in
     let swap = c.swap_queues.ensures in
     let was = c.deref_mut.ensures.value in
@@ -74,3 +75,7 @@ returns g c =
           ])
           c.renew.ensures.holds);
     }
+
+pub returns-clause-counted : goal.returns-clause-counted
+returns-clause-counted g c =
+    omega (arith, c.renew.ensures.counted, of_one g.Q.SiblingQueue.most_compared g.met.Q.SiblingQueue.rises c.args.table.now.tasks c.args.to)

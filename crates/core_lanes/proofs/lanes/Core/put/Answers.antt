@@ -1,8 +1,9 @@
-use Rattle.std.proofs.Common.{refl}
+use Rattle.std.proofs.Common.{arith, refl}
 use Rattle.core_lanes.specs.Queued.{queued_at, others}
 use Rattle.core_lanes.proofs.Stays.{queue_at}
 use Rattle.core_lanes.proofs.Queues.{others-absent}
 use Rattle.core_lanes.proofs.AtHome.{held_asleep, held_home, bare_home}
+use Rattle.core_lanes.proofs.Counted.{of_one}
 use Rattle.core_lanes.proofs.lanes.Core.put.Goals as goal
 
 pub put-requires : goal.put-requires
@@ -18,8 +19,8 @@ put-requires g c =
       holds = c.requires.home.held home lane.queue (queue_at c.args.self.now.lanes.items home lane c.requires.home.home c.index_mut.ensures.value);
     }
 
-pub returns-then-task : goal.returns-then-task
-returns-then-task g c =
+pub returns-then-task-clause-queues : goal.returns-then-task-clause-queues
+returns-then-task-clause-queues g c =
     let task = c.args.task.now in
     let tasks = c.args.table.now.tasks in
     let home = c.requires.home in
@@ -29,8 +30,8 @@ returns-then-task g c =
           (λ cpu off. others-absent tasks task cpu home.table.rising home.there off) home.held c.index_mut.result.now c.put.new.self c.put.ensures.holds;
     }
 
-pub returns-else-task : goal.returns-else-task
-returns-else-task g c =
+pub returns-else-task-clause-queues : goal.returns-else-task-clause-queues
+returns-else-task-clause-queues g c =
     let task = c.args.task.now in
     let tasks = c.args.table.now.tasks in
     let home = c.requires.home in
@@ -39,3 +40,7 @@ returns-else-task g c =
       held = held_asleep c.args.self.now c.args.table.now task (λ cpu. others task.spec.pid (queued_at tasks cpu)) (queued_at tasks)
           (λ cpu off. others-absent tasks task cpu home.table.rising home.there off) home.held c.if-task.false;
     }
+
+pub returns-then-task-clause-counted : goal.returns-then-task-clause-counted
+returns-then-task-clause-counted g c =
+    omega (arith, c.put.ensures.counted, of_one g.Q.SiblingQueue.most_compared g.met.Q.SiblingQueue.rises c.args.table.now.tasks c.args.task.now.home)

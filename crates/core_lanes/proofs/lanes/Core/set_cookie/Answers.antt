@@ -9,8 +9,8 @@ use Rattle.core_lanes.proofs.Replaced.{replaced-itself, agree-replaced}
 use Rattle.core_lanes.proofs.Stays.{found_in}
 use Rattle.core_lanes.proofs.lanes.Core.set_cookie.Goals as goal
 
-pub returns-then-task-cookie : goal.returns-then-task-cookie
-returns-then-task-cookie g c =
+pub returns-then-task-cookie-clause-replaces : goal.returns-then-task-cookie-clause-replaces
+returns-then-task-cookie-clause-replaces g c =
     let task = c.args.task.now in
     let before = c.args.table.now in
     let with_it : ℕ → Table = λ cookie. record before { tasks = map (replaced_by (record task { cookie = cookie })) before.tasks } in
@@ -30,8 +30,8 @@ set_cookie_in_queue-requires g c =
       held = agree.held;
     }
 
-pub returns : goal.returns
-returns g c =
+pub returns-clause-replaces : goal.returns-clause-replaces
+returns-clause-replaces g c =
     let task = c.args.task.now in
     let now : Task = record task { cookie = c.args.cookie } in
     let old = c.args.self.now in
@@ -47,10 +47,10 @@ returns g c =
       };
     } in
     let new = c.set_cookie_in_queue.new.self in
-    let same = c.set_cookie_in_queue.ensures.bare in
+    let same = c.set_cookie_in_queue.ensures.queues.bare in
     let after : Table = record before { tasks = map (replaced_by now) before.tasks } in
     let changed : c.give_cookie.new.self ≡ after =
     c.give_cookie.ensures.given
     ∙ (λ i. record before { tasks = sym (changed_each (λ t. record t { cookie = c.args.cookie }) before.tasks task agree.table.rising there) i }) in
-    let held = subst (λ (t : Table). AreHeld (new, t)) (sym changed) c.set_cookie_in_queue.ensures.held in
+    let held = subst (λ (t : Table). AreHeld (new, t)) (sym changed) c.set_cookie_in_queue.ensures.queues.held in
     record { table = changed; bare = same; agree = agree-replaced old new before c.give_cookie.new.self now fits same changed c.give_cookie.ensures.sound held }

@@ -23,8 +23,8 @@ set_vtime_in_queue-requires-clause-home g c =
       held = c.requires.agree.held;
     }
 
-pub returns : goal.returns
-returns g c task is =
+pub returns-clause-changes : goal.returns-clause-changes
+returns-clause-changes g c task is =
     let old = c.args.self.now in
     let new = c.set_vtime_in_queue.new.self in
     let before = c.args.table.now in
@@ -38,6 +38,6 @@ returns g c task is =
     let run : Task → Task = λ other. record other { vtime = vtime } in
     let keeps : KeepsTask was (run was) = record { spec = refl; cookie = refl; home = refl; queued = refl; stamp = refl } in
     let given = c.set_vtime.ensures.given in
-    let held = subst (λ (t : Table). AreHeld (new, t)) (sym (table_timed old new before after pid was run keeps c.requires.agree found given)) c.set_vtime_in_queue.ensures.held in
+    let held = subst (λ (t : Table). AreHeld (new, t)) (sym (table_timed old new before after pid was run keeps c.requires.agree found given)) c.set_vtime_in_queue.ensures.queues.held in
     subst (λ (t : Task). Changes (old, before) (new, after) (λ room. with_task room (run t))) same
-    (changes_timed old new before after pid was run keeps c.requires.agree found given c.set_vtime_in_queue.ensures.bare c.set_vtime.ensures.sound held)
+    (changes_timed old new before after pid was run keeps c.requires.agree found given c.set_vtime_in_queue.ensures.queues.bare c.set_vtime.ensures.sound held)

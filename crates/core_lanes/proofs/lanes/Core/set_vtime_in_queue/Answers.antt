@@ -1,9 +1,10 @@
-use Rattle.std.proofs.Common.{refl, sym}
+use Rattle.std.proofs.Common.{arith, refl, sym}
 use Rattle.cs_types.specs.declared.task.Task.{Task}
 use Rattle.core_lanes.specs.Queued.{queued_at, given_vtime}
 use Rattle.core_lanes.proofs.Stays.{queue_at}
 use Rattle.core_lanes.proofs.Replaced.{queued_at-replaced}
 use Rattle.core_lanes.proofs.AtHome.{held_asleep, held_home, bare_home}
+use Rattle.core_lanes.proofs.Counted.{of_one}
 use Rattle.core_lanes.proofs.lanes.Core.set_vtime_in_queue.Goals as goal
 
 pub set_vtime-requires : goal.set_vtime-requires
@@ -21,8 +22,8 @@ set_vtime-requires g c =
       fair = c.requires.fair;
     }
 
-pub returns-then-task : goal.returns-then-task
-returns-then-task g c =
+pub returns-then-task-clause-queues : goal.returns-then-task-clause-queues
+returns-then-task-clause-queues g c =
     let task = c.args.task.now in
     let now : Task = record task { vtime = c.args.vtime } in
     let tasks = c.args.table.now.tasks in
@@ -33,8 +34,8 @@ returns-then-task g c =
           (λ cpu off. sym (queued_at-replaced now task tasks cpu home.table.rising home.there off off)) home.held c.index_mut.result.now c.set_vtime.new.self c.set_vtime.ensures.holds;
     }
 
-pub returns-else-task : goal.returns-else-task
-returns-else-task g c =
+pub returns-else-task-clause-queues : goal.returns-else-task-clause-queues
+returns-else-task-clause-queues g c =
     let task = c.args.task.now in
     let now : Task = record task { vtime = c.args.vtime } in
     let tasks = c.args.table.now.tasks in
@@ -44,3 +45,7 @@ returns-else-task g c =
       held = held_asleep c.args.self.now c.args.table.now task (queued_at tasks) (queued_at (given_vtime task c.args.vtime tasks))
           (λ cpu off. sym (queued_at-replaced now task tasks cpu home.table.rising home.there off off)) home.held c.if-task.false;
     }
+
+pub returns-then-task-clause-counted : goal.returns-then-task-clause-counted
+returns-then-task-clause-counted g c =
+    omega (arith, c.set_vtime.ensures.counted, of_one g.Q.SiblingQueue.most_compared g.met.Q.SiblingQueue.rises c.args.table.now.tasks c.args.task.now.home)

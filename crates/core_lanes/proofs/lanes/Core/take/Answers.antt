@@ -1,8 +1,9 @@
-use Rattle.std.proofs.Common.{refl, sym}
+use Rattle.std.proofs.Common.{arith, refl, sym}
 use Rattle.core_lanes.specs.Queued.{queued_at, others}
 use Rattle.core_lanes.proofs.Stays.{queue_at}
 use Rattle.core_lanes.proofs.Queues.{others-absent}
 use Rattle.core_lanes.proofs.AtHome.{held_asleep, held_home, bare_home}
+use Rattle.core_lanes.proofs.Counted.{of_one}
 use Rattle.core_lanes.proofs.lanes.Core.take.Goals as goal
 
 pub take-requires : goal.take-requires
@@ -17,8 +18,8 @@ take-requires g c =
       holds = c.requires.held home lane.queue (queue_at c.args.self.now.lanes.items home lane c.requires.home c.index_mut.ensures.value);
     }
 
-pub returns-then-task : goal.returns-then-task
-returns-then-task g c =
+pub returns-then-task-clause-queues : goal.returns-then-task-clause-queues
+returns-then-task-clause-queues g c =
     let task = c.args.task.now in
     let tasks = c.args.table.now.tasks in
     record {
@@ -27,8 +28,8 @@ returns-then-task g c =
           (λ cpu off. sym (others-absent tasks task cpu c.requires.table.rising c.requires.there off)) c.requires.held c.index_mut.result.now c.take.new.self c.take.ensures.holds;
     }
 
-pub returns-else-task : goal.returns-else-task
-returns-else-task g c =
+pub returns-else-task-clause-queues : goal.returns-else-task-clause-queues
+returns-else-task-clause-queues g c =
     let task = c.args.task.now in
     let tasks = c.args.table.now.tasks in
     record {
@@ -36,3 +37,7 @@ returns-else-task g c =
       held = held_asleep c.args.self.now c.args.table.now task (queued_at tasks) (λ cpu. others task.spec.pid (queued_at tasks cpu))
           (λ cpu off. sym (others-absent tasks task cpu c.requires.table.rising c.requires.there off)) c.requires.held c.if-task.false;
     }
+
+pub returns-then-task-clause-counted : goal.returns-then-task-clause-counted
+returns-then-task-clause-counted g c =
+    omega (arith, c.take.ensures.counted, of_one g.Q.SiblingQueue.most_compared g.met.Q.SiblingQueue.rises c.args.table.now.tasks c.args.task.now.home)

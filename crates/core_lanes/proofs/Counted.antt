@@ -1,0 +1,22 @@
+-- Counted: how the comparisons of one call and of several are bounded.
+use Rattle.std.proofs.Common.{◌≡◌, ◌∙◌, ℕ, ◌≤◌, List, refl, sym, ap, map, length, arith}
+use Rattle.std.specs.Prelude.{◌==◌, ◌&&◌, not}
+use Rattle.std.proofs.lemmas.List.{length-map}
+use Rattle.std.proofs.lemmas.List.Filters.{length-filter_both}
+use Rattle.cs_types.specs.declared.task.Task.{Task}
+use Rattle.task_table.specs.Table.{Table}
+use Rattle.core_lanes.specs.Queued.{queued_among}
+use Rattle.core_lanes.specs.declared.queue.SiblingQueue.{Ghosts}
+use Rattle.core_lanes.specs.declared.lanes.Core.{Core}
+use Rattle.core_lanes.specs.Changes.{Kept, kept_of, identity_of}
+
+-- a call of a queue makes no more than one of a queue that has all tasks
+pub of_one : (most : ℕ → ℕ) → ((few many : ℕ) → few ≤ many → most few ≤ most many) → (tasks : List Task) (cpu : ℕ) →
+    most (length (queued_among tasks cpu)) ≤ most (length tasks)
+of_one most rises tasks cpu =
+    rises _ _ (omega (arith, length-filter_both (λ (task : Task). task.queued && (task.home == cpu)) (λ task. not (task.queued && (task.home == cpu))) (λ task. refl) tasks))
+
+-- as many tasks live where their pids and cookies stay
+pub as_many_live : {Q : Type 0} {g : Ghosts Q} (old new : Core Q g × Table) → kept_of new ≡ kept_of old → length new.1.tasks ≡ length old.1.tasks
+as_many_live old new kept =
+    sym (length-map new.1.tasks identity_of) ∙ ap (λ (k : Kept). length k.identities) kept ∙ length-map old.1.tasks identity_of
