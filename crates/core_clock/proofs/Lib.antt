@@ -1,4 +1,5 @@
 pub mod Changes
+pub mod Counted
 pub mod Growth
 pub mod Clocks
 pub mod Peers

@@ -6,6 +6,7 @@ ghost use Rattle.cs_types.specs.Room.{lowest_online};
 ghost use Rattle.cs_types.specs.Queueing.{online_home, rehomed, preempts, refreshed, queue_at_home};
 ghost use Rattle.task_table.specs.Table.{Table};
 ghost use Rattle.core_lanes.specs.Lanes.{Beside, at, room_of, IsFit, CanMove};
+ghost use Rattle.core_lanes.specs.Comparisons.{ComparesFor};
 ghost use Rattle.core_clock.specs.Moments.{MayQueue, TouchesAt};
 
 use core_lanes::{Core, SiblingQueue, is_higher};
@@ -88,7 +89,8 @@ pub fn queue_at_home<Q: SiblingQueue, L: Ledger>(
     steps: &mut Steps<L>,
 )
     requires { MayQueue now 1 (core.old, table.old) task }
-    ensures { TouchesAt now 1 (core.old, table.old) (core.new, table.new) (λ room. queue_at_home room task) }
+    ensures touches { TouchesAt now 1 (core.old, table.old) (core.new, table.new) (λ room. queue_at_home room task) }
+    ensures counted { ComparesFor 2 (core.old, table.old) steps.old steps.new }
 {
     let mut fresh = task;
     refresh(core, &mut fresh, now);

@@ -1,13 +1,14 @@
 //! What an advance of the clock and a tick of a sibling's timer do. It is a file of its own since these
 //! alone move time.
 
-ghost use Rattle.std.specs.Prelude.{◌≡◌, ℕ, ◌+◌, ◌^◌, ◌<◌, map, All, find, Some};
+ghost use Rattle.std.specs.Prelude.{◌≡◌, ℕ, ◌+◌, ◌*◌, ◌^◌, ◌<◌, map, length, All, find, Some};
 ghost use Rattle.cs_types.specs.declared.task.Task.{Task as SomeTask};
 ghost use Rattle.cs_types.specs.Room.{has_pid};
 ghost use Rattle.cs_types.specs.Time as time;
 ghost use Rattle.cs_types.specs.Time.{grown, with_leasts, has_used_slice, rotates, is_overtaken, is_to_yield, asks_at_tick, begin_slice};
 ghost use Rattle.core_lanes.specs.Lanes.{Beside, lane_state, room_of, Agree, AgreesAt};
 ghost use Rattle.core_lanes.specs.Changes.{Changes};
+ghost use Rattle.core_lanes.specs.Comparisons.{ComparesFor};
 ghost use Rattle.core_clock.specs.Moments.{MayAsk, MayBeginSlice, AreTests, MayTick, Ticks, Advances};
 ghost use Rattle.core_clock.specs.Time.{MayAdvance, MayGrow, CanGrow, with_grown, with_ages};
 
@@ -35,7 +36,8 @@ fn grow_on<Q: SiblingQueue, L: Ledger>(
 )
     requires at { AgreesAt cpu (core.old, table.old) }
     requires can { CanGrow delta table.old.tasks }
-    ensures { Changes (core.old, table.old) (core.new, table.new) (with_grown cpu delta) }
+    ensures changes { Changes (core.old, table.old) (core.new, table.new) (with_grown cpu delta) }
+    ensures counted { ComparesFor 2 (core.old, table.old) steps.old steps.new }
 {
     let Some(task) = core.runner(table, cpu) else {
         return;
@@ -62,7 +64,8 @@ fn grow_tasks<Q: SiblingQueue, L: Ledger>(
     steps: &mut Steps<L>,
 )
     requires { MayGrow delta (core.old, table.old) }
-    ensures { Changes (core.old, table.old) (core.new, table.new) (λ room. record room { tasks = map (grown room delta) room.tasks }) }
+    ensures changes { Changes (core.old, table.old) (core.new, table.new) (λ room. record room { tasks = map (grown room delta) room.tasks }) }
+    ensures counted { ComparesFor (2 * length core.old.lanes.items) (core.old, table.old) steps.old steps.new }
 {
     for cpu in 0..core.lanes.len() {
         grow_on(core, table, cpu as u8, delta, steps);
@@ -79,7 +82,8 @@ fn renew_siblings<Q: SiblingQueue, L: Ledger>(
 )
     requires agree { Agree (core.old, table.now) }
     requires ran { All (λ sibling. sibling.ran + delta < 2 ^ 64) (map lane_state core.old.lanes.items) }
-    ensures { Changes (core.old, table.now) (core.new, table.now) (λ room. with_leasts (with_ages delta room)) }
+    ensures changes { Changes (core.old, table.now) (core.new, table.now) (λ room. with_leasts (with_ages delta room)) }
+    ensures counted { ComparesFor (length core.old.lanes.items) (core.old, table.now) steps.old steps.new }
 {
     for cpu in 0..core.lanes.len() {
         let lane = &mut core.lanes[cpu];
@@ -99,7 +103,8 @@ pub fn advance<Q: SiblingQueue, L: Ledger>(
     steps: &mut Steps<L>,
 ) -> u64
     requires { MayAdvance now delta (core.old, table.old) }
-    ensures { Advances now delta (core.old, table.old) (core.new, table.new) result }
+    ensures advances { Advances now delta (core.old, table.old) (core.new, table.new) result }
+    ensures counted { ComparesFor (3 * length core.old.lanes.items) (core.old, table.old) steps.old steps.new }
 {
     grow_tasks(core, table, delta, steps);
     renew_siblings(core, table, delta, steps);
@@ -125,7 +130,8 @@ fn rotates<Q: SiblingQueue, L: Ledger>(
     steps: &mut Steps<L>,
 ) -> bool
     requires { MayAsk cpu (core.now, table.now) task.now }
-    ensures { (beside : Beside) → result ≡ rotates (room_of beside (core.now, table.now)) cpu task.now }
+    ensures rotates { (beside : Beside) → result ≡ rotates (room_of beside (core.now, table.now)) cpu task.now }
+    ensures counted { ComparesFor 1 (core.now, table.now) steps.old steps.new }
 {
     has_used_slice(task)
         && core.lanes[cpu as usize]
@@ -142,7 +148,8 @@ fn is_overtaken<Q: SiblingQueue, L: Ledger>(
     steps: &mut Steps<L>,
 ) -> bool
     requires { MayAsk cpu (core.now, table.now) task.now }
-    ensures { (beside : Beside) → result ≡ is_overtaken (room_of beside (core.now, table.now)) cpu task.now }
+    ensures overtaken { (beside : Beside) → result ≡ is_overtaken (room_of beside (core.now, table.now)) cpu task.now }
+    ensures counted { ComparesFor 1 (core.now, table.now) steps.old steps.new }
 {
     if !is_fair(task) {
         return false;
@@ -166,7 +173,8 @@ fn is_to_yield<Q: SiblingQueue, L: Ledger>(
     steps: &mut Steps<L>,
 ) -> bool
     requires { MayAsk cpu (core.now, table.now) task.now }
-    ensures { (beside : Beside) → result ≡ is_to_yield (room_of beside (core.now, table.now)) cpu task.now }
+    ensures yields { (beside : Beside) → result ≡ is_to_yield (room_of beside (core.now, table.now)) cpu task.now }
+    ensures counted { ComparesFor 1 (core.now, table.now) steps.old steps.new }
 {
     let lane = &core.lanes[cpu as usize];
     is_fair(task)
@@ -187,7 +195,8 @@ fn asks_at_tick<Q: SiblingQueue, L: Ledger>(
 ) -> bool
     requires may { MayAsk cpu (core.now, table.now) task.now }
     requires rotates { (beside : Beside) → rotates ≡ time.rotates (room_of beside (core.now, table.now)) cpu task.now }
-    ensures { (beside : Beside) → result ≡ asks_at_tick (room_of beside (core.now, table.now)) cpu task.now }
+    ensures asks { (beside : Beside) → result ≡ asks_at_tick (room_of beside (core.now, table.now)) cpu task.now }
+    ensures counted { ComparesFor 2 (core.now, table.now) steps.old steps.new }
 {
     if rotates {
         return true;
@@ -206,8 +215,9 @@ fn begin_slice<Q: SiblingQueue, L: Ledger>(
     steps: &mut Steps<L>,
 )
     requires { MayBeginSlice pid (core.old, table.old) }
-    ensures { (cpu : ℕ) (task : SomeTask) → find (has_pid pid) table.old.tasks ≡ Some task → AreTests cpu (core.old, table.old) task used rotates →
+    ensures changes { (cpu : ℕ) (task : SomeTask) → find (has_pid pid) table.old.tasks ≡ Some task → AreTests cpu (core.old, table.old) task used rotates →
         Changes (core.old, table.old) (core.new, table.new) (λ room. begin_slice room cpu task) }
+    ensures counted { ComparesFor 2 (core.old, table.old) steps.old steps.new }
 {
     if rotates {
         let task = task_of(table, pid).unwrap();
@@ -234,7 +244,8 @@ pub fn tick<Q: SiblingQueue, L: Ledger>(
     steps: &mut Steps<L>,
 ) -> bool
     requires { MayTick now cpu (core.old, table.old) }
-    ensures { Ticks now (core.old, table.old) (core.new, table.new) cpu result }
+    ensures ticks { Ticks now (core.old, table.old) (core.new, table.new) cpu result }
+    ensures counted { ComparesFor 5 (core.old, table.old) steps.old steps.new }
 {
     charge(core, table, now);
     let Some(task) = core.runner(table, cpu) else {

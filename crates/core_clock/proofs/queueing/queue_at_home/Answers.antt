@@ -32,7 +32,7 @@ keeps both now task fresh is =
     subst (Keeps task) (sym is) (refreshed_keeps (room_of (at now some_beside) both) task.spec.policy task)
 
 pub flag-requires : goal.flag-requires
-flag-requires g c = still_below c.enqueue.ensures.stays c.requires.knows.apart.fits.home
+flag-requires g c = still_below c.enqueue.ensures.touches.stays c.requires.knows.apart.fits.home
 
 pub preempts-preempts-requires : goal.preempts-preempts-requires
 preempts-preempts-requires g c = subst (λ (n : ℕ). n < length c.args.core.now.lanes.items) (sym (keeps (c.args.core.now, c.args.table.now) c.args.now c.args.task c.refresh.new.task (c.refresh.ensures some_beside c.args.table.now)).2) c.requires.knows.apart.fits.home
@@ -58,16 +58,16 @@ enqueue-requires g c =
       touches = c.requires.touches;
     }
 
-pub returns : goal.returns
-returns g c =
+pub returns-clause-touches : goal.returns-clause-touches
+returns-clause-touches g c =
     let raised = c.flag.ensures c.enqueue.new.table in
     record {
       room = λ beside.
           let room = room_of (at c.args.now beside) (c.args.core.now, c.args.table.now) in
           raised.room (at c.args.now beside)
-          ∙ ap (λ (now : RoomState). flag now c.args.task.home c.preempts-preempts.result) (c.enqueue.ensures.room (at c.args.now beside))
+          ∙ ap (λ (now : RoomState). flag now c.args.task.home c.preempts-preempts.result) (c.enqueue.ensures.touches.room (at c.args.now beside))
           ∙ ap (flag (enqueue room c.refresh.new.task) c.args.task.home) (c.preempts-preempts.ensures (at c.args.now beside))
           ∙ ap (λ (fresh : Task). flag (enqueue room fresh) c.args.task.home (preempts room fresh)) (c.refresh.ensures beside c.args.table.now);
-      numbers = raised.numbers ∙ c.enqueue.ensures.numbers;
-      stays = both_stay c.enqueue.ensures.stays raised.stays;
+      numbers = raised.numbers ∙ c.enqueue.ensures.touches.numbers;
+      stays = both_stay c.enqueue.ensures.touches.stays raised.stays;
     }

@@ -1,12 +1,15 @@
-use Rattle.std.proofs.Common.{◌+◌, ◌<◌, ◌≤◌, ◌^◌, ◌∙◌, ap, sym, subst, map, refl, arith}
+use Rattle.std.proofs.Common.{◌+◌, ◌*◌, ◌<◌, ◌≤◌, ◌^◌, ◌∙◌, ap, sym, subst, map, length, refl, arith}
 use Rattle.std.specs.Prelude.{All}
 use Rattle.std.proofs.lemmas.List.Elements.{All-weaker}
 use Rattle.cs_types.specs.declared.task.Task.{Task}
 use Rattle.cs_types.specs.Room.{RoomState, SiblingState}
 use Rattle.cs_types.specs.Time.{with_leasts, advanced}
 use Rattle.core_lanes.specs.Lanes.{at, lane_state}
+use Rattle.core_lanes.specs.Changes.{Kept}
+use Rattle.core_lanes.specs.Comparisons.{ComparesFor}
 use Rattle.core_lanes.proofs.Stays.{some_beside, both_stay}
 use Rattle.core_clock.specs.Time.{with_ages}
+use Rattle.core_clock.proofs.Counted.{both_compare}
 use Rattle.core_clock.proofs.time.advance.Goals as goal
 
 pub grow_tasks-requires : goal.grow_tasks-requires
@@ -20,20 +23,30 @@ grow_tasks-requires g c = record {
 
 pub renew_siblings-requires : goal.renew_siblings-requires
 renew_siblings-requires g c = record {
-  agree = c.grow_tasks.ensures.stays.agree c.requires.agree;
+  agree = c.grow_tasks.ensures.changes.stays.agree c.requires.agree;
   ran = subst (All (λ (sibling : SiblingState). sibling.ran + c.args.delta < 2 ^ 64))
-      (sym (ap (λ (room : RoomState). room.siblings) (c.grow_tasks.ensures.room some_beside)))
+      (sym (ap (λ (room : RoomState). room.siblings) (c.grow_tasks.ensures.changes.room some_beside)))
       (All-weaker (λ (sibling : SiblingState). sibling.ran ≤ c.args.now) (λ (sibling : SiblingState). sibling.ran + c.args.delta < 2 ^ 64)
       (λ sibling is. omega (arith, is, c.requires.clock, c.requires.short)) (map lane_state c.args.core.now.lanes.items) c.requires.ran);
 }
 
-pub returns : goal.returns
+pub returns-clause-advances : goal.returns-clause-advances
 unfolding advanced
-returns g c = record {
+returns-clause-advances g c = record {
   clock = refl;
   room = λ beside.
       let later = at (c.args.now + c.args.delta) beside in
-      c.renew_siblings.ensures.room later ∙ ap (λ (room : RoomState). with_leasts (with_ages c.args.delta room)) (c.grow_tasks.ensures.room later);
-  numbers = c.renew_siblings.ensures.numbers ∙ c.grow_tasks.ensures.numbers;
-  stays = both_stay c.grow_tasks.ensures.stays c.renew_siblings.ensures.stays;
+      c.renew_siblings.ensures.changes.room later ∙ ap (λ (room : RoomState). with_leasts (with_ages c.args.delta room)) (c.grow_tasks.ensures.changes.room later);
+  numbers = c.renew_siblings.ensures.changes.numbers ∙ c.grow_tasks.ensures.changes.numbers;
+  stays = both_stay c.grow_tasks.ensures.changes.stays c.renew_siblings.ensures.changes.stays;
 }
+
+pub returns-clause-counted : goal.returns-clause-counted
+returns-clause-counted g c =
+    let siblings = length c.args.core.now.lanes.items in
+    let grown = c.grow_tasks.new in
+    let end = c.renew_siblings.new.steps in
+    let stays = c.grow_tasks.ensures.changes.stays in
+    let renews = subst (λ n. ComparesFor n (grown.core, grown.table) grown.steps end) (ap (λ (kept : Kept). kept.siblings) stays.kept) c.renew_siblings.ensures.counted in
+    both_compare (c.args.core.now, c.args.table.now) (grown.core, grown.table) (2 * siblings) siblings (3 * siblings) c.args.steps.now grown.steps end stays (omega arith)
+    c.grow_tasks.ensures.counted renews

@@ -33,8 +33,8 @@ change-requires g c =
       stamp = λ queued. stamp_next next tasks _ refl c.requires.agree.stamped;
     }
 
-pub returns-then-rotates : goal.returns-then-rotates
-returns-then-rotates g c cpu task found tests =
+pub returns-then-rotates-clause-changes : goal.returns-then-rotates-clause-changes
+returns-then-rotates-clause-changes g c cpu task found tests =
     let next = c.args.core.now.next_stamp in
     let later : next ≤ next + 1 = omega arith in
     let both : Some c.unwrap-task.result ≡ Some task = sym c.unwrap-task.ensures ∙ c.task_of.ensures.task ∙ found in
@@ -47,20 +47,20 @@ returns-then-rotates g c cpu task found tests =
           let room = room_of beside (c.args.core.now, c.args.table.now) in
           let behind = sym (turns beside) ∙ c.if-rotates.true in
           let used : has_used_slice one ≡ true = (and_parts (has_used_slice one) _ behind).0 in
-          c.change.ensures.room beside ∙ sliced_is room cpu one true true used behind;
-      numbers = c.change.ensures.numbers;
-      stays = both_stay (stamped_later c.args.core.now _ c.args.table.now refl later) c.change.ensures.stays;
+          c.change.ensures.changes.room beside ∙ sliced_is room cpu one true true used behind;
+      numbers = c.change.ensures.changes.numbers;
+      stays = both_stay (stamped_later c.args.core.now _ c.args.table.now refl later) c.change.ensures.changes.stays;
     } in
     subst (λ (one : Task). Changes (c.args.core.now, c.args.table.now) (c.change.new.self, c.change.new.table) (λ room. begin_slice room cpu one)) same begins
 
-pub returns-then-used : goal.returns-then-used
-returns-then-used g c cpu task found tests =
+pub returns-then-used-clause-changes : goal.returns-then-used-clause-changes
+returns-then-used-clause-changes g c cpu task found tests =
     changes_as (λ beside.
     sliced_is (room_of beside (c.args.core.now, c.args.table.now)) cpu task true false (sym tests.slice ∙ c.if-used.true) (sym (tests.peers beside) ∙ c.if-rotates.false))
     (changes_used c.args.core.now c.args.table.now c.set_used.new.self c.args.pid 0 task c.requires.agree found c.set_used.ensures.given c.set_used.ensures.sound)
 
-pub returns-else-used : goal.returns-else-used
-returns-else-used g c cpu task found tests = record {
+pub returns-else-used-clause-changes : goal.returns-else-used-clause-changes
+returns-else-used-clause-changes g c cpu task found tests = record {
   room = λ beside.
       sliced_not (room_of beside (c.args.core.now, c.args.table.now)) cpu task c.requires.agree.table.rising (found_again c.args.pid c.args.table.now.tasks task found)
       (sym tests.slice ∙ c.if-used.false) (sym (tests.peers beside) ∙ c.if-rotates.false);

@@ -22,8 +22,8 @@ use Rattle.core_clock.proofs.time.grow_on.Goals as goal
 abbrev grown_with : ℕ → RoomState → Option Task → RoomState
 grown_with delta room found = option_map_or (λ task. with_task room (grown_by delta task.spec.policy task)) found room
 
-pub returns-in_default : goal.returns-in_default
-returns-in_default g c = record {
+pub returns-in_default-clause-changes : goal.returns-in_default-clause-changes
+returns-in_default-clause-changes g c = record {
   room = λ beside. ap (grown_with c.args.delta (room_of beside (c.args.core.now, c.args.table.now))) (c.in_default.ensures.task beside);
   numbers = refl;
   stays = same_stays;
@@ -51,8 +51,8 @@ overflow_add-vtime g c =
     let was = found_in (λ (task : Task). task.vtime + 69 * c.args.delta < 2 ^ 128) c.in-Some.task.now.spec.pid c.args.table.now.tasks c.in-Some.task.now c.requires.can.vtimes c.in-Some.ensures.there in
     omega (arith, was, low)
 
-pub returns-in-Rr : goal.returns-in-Rr
-returns-in-Rr g c =
+pub returns-in-Rr-clause-changes : goal.returns-in-Rr-clause-changes
+returns-in-Rr-clause-changes g c =
     let task = c.in-Some.task.now in
     let delta = c.args.delta in
     changes_as (λ beside.
@@ -67,8 +67,8 @@ set_vtime-requires-clause-fair g c =
     let fair : is_fair task ≡ true = ap (λ (policy : Policy). class_of policy == fair_class) c.in-Fair.is in
     subst (λ (found : Option Task). IsSomeAnd found (λ task. IsTrue (is_fair task))) (sym c.in-Some.ensures.there) fair
 
-pub returns-in-Fair : goal.returns-in-Fair
-returns-in-Fair g c =
+pub returns-in-Fair-clause-changes : goal.returns-in-Fair-clause-changes
+returns-in-Fair-clause-changes g c =
     let task = c.in-Some.task.now in
     let delta = c.args.delta in
     let is : IsNice c.in-Fair.nice = subst IsPolicy c.in-Fair.is
@@ -79,10 +79,10 @@ returns-in-Fair g c =
     ap (λ (n : ℕ). with_task room (let later : Task = record task { vtime = task.vtime + n } in later)) grows
     ∙ ap (λ (policy : Policy). with_task room (grown_by delta policy task)) (sym c.in-Fair.is)
     ∙ ap (grown_with delta room) (c.in-Some.ensures.task beside))
-    (c.set_vtime.ensures task c.in-Some.ensures.there)
+    (c.set_vtime.ensures.changes task c.in-Some.ensures.there)
 
-pub returns-in_default-policy : goal.returns-in_default-policy
-returns-in_default-policy g c =
+pub returns-in_default-policy-clause-changes : goal.returns-in_default-policy-clause-changes
+returns-in_default-policy-clause-changes g c =
     let task = c.in-Some.task.now in
     let delta = c.args.delta in
     record {

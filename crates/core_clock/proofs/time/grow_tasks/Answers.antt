@@ -8,9 +8,11 @@ use Rattle.core_lanes.specs.declared.queue.SiblingQueue.{Ghosts}
 use Rattle.core_lanes.specs.Lanes.{Beside, lane_state, room_of, RunTheirOwn}
 use Rattle.core_lanes.specs.declared.lanes.Core.{Core}
 use Rattle.core_lanes.specs.Changes.{Changes}
+use Rattle.core_lanes.specs.Comparisons.{ComparesFor}
 use Rattle.task_table.specs.Table.{Table}
 use Rattle.core_lanes.proofs.Stays.{some_beside, same_stays}
 use Rattle.core_clock.proofs.Changes.{both_change, changes_as, still_below}
+use Rattle.core_clock.proofs.Counted.{both_compare}
 use Rattle.core_clock.proofs.Growth.{is_run_by, with_growth_on, grown_alone, runs_alone, grown_with_first, grown_with_none, grown_with_more, grown_with_all, all_grown}
 use Rattle.core_clock.proofs.time.grow_tasks.Goals as goal
 
@@ -21,6 +23,7 @@ loop-cpu-init g c = record {
     numbers = refl;
     stays = same_stays;
   };
+  counted = omega arith;
 }
 
 pub grow_on-requires-clause-at : goal.grow_on-requires-clause-at
@@ -72,13 +75,20 @@ loop-cpu-preserved g c =
           (changes_as (λ beside.
           let room = room_of beside mid in
           grown_alone room cpu c.args.delta (changes.stays.agree c.requires.agree).table.rising
-          (λ task runs. alone old mid c.args.delta cpu task beside below c.requires.own changes runs)) c.grow_on.ensures);
+          (λ task runs. alone old mid c.args.delta cpu task beside below c.requires.own changes runs)) c.grow_on.ensures.changes);
+      counted = both_compare old mid (2 * cpu) 2 (2 * (cpu + 1)) c.args.steps.now c.loop-cpu.steps c.grow_on.new.steps changes.stays (omega arith) c.loop-cpu.invariant.counted c.grow_on.ensures.counted;
     }
 
-pub returns : goal.returns
-returns g c =
+pub returns-clause-changes : goal.returns-clause-changes
+returns-clause-changes g c =
     let lanes = c.args.core.now.lanes in
     let cpu = c.loop-cpu.cpu in
     let all : cpu ≡ length (map lane_state lanes.items) =
     omega (arith, c.loop-cpu-test.false, c.loop-cpu.auto.cpu-end, c.len-cpu-end.ensures, lanes.ok.0, length-map lanes.items lane_state) in
     changes_as (λ beside. grown_with_all c.args.delta cpu (room_of beside (c.args.core.now, c.args.table.now)) all) c.loop-cpu.invariant.changes
+
+pub returns-clause-counted : goal.returns-clause-counted
+returns-clause-counted g c =
+    let lanes = c.args.core.now.lanes in
+    let all : c.loop-cpu.cpu ≡ length lanes.items = omega (arith, c.loop-cpu-test.false, c.loop-cpu.auto.cpu-end, c.len-cpu-end.ensures, lanes.ok.0) in
+    subst (λ n. ComparesFor (2 * n) (c.args.core.now, c.args.table.now) c.args.steps.now c.loop-cpu.steps) all c.loop-cpu.invariant.counted

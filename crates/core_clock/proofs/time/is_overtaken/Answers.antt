@@ -1,4 +1,4 @@
-use Rattle.std.proofs.Common.{◌≡◌, ℕ, ◌∙◌, ap, sym, ltb, Option, Some, None, true, false}
+use Rattle.std.proofs.Common.{◌≡◌, ℕ, ◌∙◌, ap, sym, ltb, Option, Some, None, true, false, arith}
 use Rattle.std.specs.Prelude.{◌&&◌}
 use Rattle.std.specs.List.{list_any}
 use Rattle.std.specs.Option.{option_map_or}
@@ -10,6 +10,7 @@ use Rattle.task_table.specs.Table.{Rises}
 use Rattle.core_lanes.specs.Queued.{IsOf, smallest_vtime}
 use Rattle.core_lanes.specs.Lanes.{room_of}
 use Rattle.core_lanes.proofs.Stays.{policies_of}
+use Rattle.core_lanes.proofs.Counted.{of_one}
 use Rattle.core_clock.proofs.Peers.{overtaken_by}
 use Rattle.core_clock.proofs.Changes.{held_at}
 use Rattle.core_clock.proofs.time.is_overtaken.Goals as goal
@@ -17,8 +18,8 @@ use Rattle.core_clock.proofs.time.is_overtaken.Goals as goal
 pub smallest_vtime-requires : goal.smallest_vtime-requires
 smallest_vtime-requires g c = record { policies = policies_of (c.args.core.now, c.args.table.now) c.requires.at.agree; holds = held_at (c.args.core.now, c.args.table.now) c.args.cpu c.index.result.now c.requires.at.agree c.requires.at.cpu c.index.ensures }
 
-pub returns-then-not-is_fair : goal.returns-then-not-is_fair
-returns-then-not-is_fair g c beside =
+pub returns-then-not-is_fair-clause-overtaken : goal.returns-then-not-is_fair-clause-overtaken
+returns-then-not-is_fair-clause-overtaken g c beside =
     let task = c.args.task.now in
     let others = others_on (room_of beside (c.args.core.now, c.args.table.now)) c.args.cpu task in
     ap (λ b. b && list_any (λ other. is_fair other && ltb other.vtime task.vtime) others) (sym c.if-not-is_fair.true ∙ c.is_fair.ensures)
@@ -31,12 +32,20 @@ by_smallest room cpu task rises there fair found is =
     ∙ overtaken_by room cpu task rises there
     ∙ ap (λ b. b && list_any (λ other. is_fair other && ltb other.vtime task.vtime) (others_on room cpu task)) (sym fair)
 
-pub returns-in-Some : goal.returns-in-Some
-returns-in-Some g c beside =
+pub returns-in-Some-clause-overtaken : goal.returns-in-Some-clause-overtaken
+returns-in-Some-clause-overtaken g c beside =
     by_smallest (room_of beside (c.args.core.now, c.args.table.now)) c.args.cpu c.args.task.now c.requires.at.agree.table.rising c.requires.there
     (sym c.is_fair.ensures ∙ c.if-not-is_fair.false) (Some c.in-Some.smallest) (sym c.in-Some.is ∙ c.smallest_vtime.ensures.answer)
 
-pub returns-in-None : goal.returns-in-None
-returns-in-None g c beside =
+pub returns-in-None-clause-overtaken : goal.returns-in-None-clause-overtaken
+returns-in-None-clause-overtaken g c beside =
     by_smallest (room_of beside (c.args.core.now, c.args.table.now)) c.args.cpu c.args.task.now c.requires.at.agree.table.rising c.requires.there
     (sym c.is_fair.ensures ∙ c.if-not-is_fair.false) None (sym c.in-None.is ∙ c.smallest_vtime.ensures.answer)
+
+pub returns-in-Some-clause-counted : goal.returns-in-Some-clause-counted
+returns-in-Some-clause-counted g c =
+    omega (arith, c.smallest_vtime.ensures.counted, of_one g.Q.SiblingQueue.most_compared g.met.Q.SiblingQueue.rises c.args.table.now.tasks c.args.cpu)
+
+pub returns-in-None-clause-counted : goal.returns-in-None-clause-counted
+returns-in-None-clause-counted g c =
+    omega (arith, c.smallest_vtime.ensures.counted, of_one g.Q.SiblingQueue.most_compared g.met.Q.SiblingQueue.rises c.args.table.now.tasks c.args.cpu)

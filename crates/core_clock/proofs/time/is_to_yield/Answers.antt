@@ -1,4 +1,4 @@
-use Rattle.std.proofs.Common.{◌≡◌, ℕ, Bool, ◌∙◌, ap, sym, not, true, false, refl, rules, ltb}
+use Rattle.std.proofs.Common.{◌≡◌, ℕ, Bool, ◌∙◌, ap, sym, not, true, false, refl, rules, ltb, arith}
 use Rattle.std.specs.Prelude.{◌&&◌, ◌==◌}
 use Rattle.std.specs.List.{list_any}
 use Rattle.cs_types.specs.declared.task.Task.{Task}
@@ -7,6 +7,7 @@ use Rattle.cs_types.specs.Order.{is_fair}
 use Rattle.cs_types.specs.Time.{others_on, is_to_yield, patience}
 use Rattle.core_lanes.specs.Lanes.{room_of}
 use Rattle.core_lanes.proofs.Stays.{lane_at, policies_of}
+use Rattle.core_lanes.proofs.Counted.{of_one}
 use Rattle.core_clock.proofs.Peers.{fair_peers}
 use Rattle.core_clock.proofs.Changes.{held_at}
 use Rattle.core_clock.proofs.time.is_to_yield.Goals as goal
@@ -23,8 +24,8 @@ where_alone room cpu task fair forced ran =
       alone true = refl
       alone false = refl
 
-pub returns-then-lane-ge-PATIENCE : goal.returns-then-lane-ge-PATIENCE
-returns-then-lane-ge-PATIENCE g c beside =
+pub returns-then-lane-ge-PATIENCE-clause-yields : goal.returns-then-lane-ge-PATIENCE-clause-yields
+returns-then-lane-ge-PATIENCE-clause-yields g c beside =
     let room = room_of beside (c.args.core.now, c.args.table.now) in
     let task = c.args.task.now in
     let fair : is_fair task ≡ true = search rules in
@@ -33,3 +34,7 @@ returns-then-lane-ge-PATIENCE g c beside =
     let here = lane_at c.args.core.now.lanes.items c.args.cpu c.index-lane.result.now c.requires.at.cpu c.index-lane.ensures in
     ap not (c.has_peer.ensures.answer ∙ fair_peers room c.args.cpu task fair)
     ∙ sym (where_alone room c.args.cpu task fair forced (ap (λ (sibling : SiblingState). ltb sibling.ran patience) here ∙ ran))
+
+pub returns-then-lane-ge-PATIENCE-clause-counted : goal.returns-then-lane-ge-PATIENCE-clause-counted
+returns-then-lane-ge-PATIENCE-clause-counted g c =
+    omega (arith, c.has_peer.ensures.counted, of_one g.Q.SiblingQueue.most_compared g.met.Q.SiblingQueue.rises c.args.table.now.tasks c.args.cpu)

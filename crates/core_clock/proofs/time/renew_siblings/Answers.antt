@@ -7,8 +7,11 @@ use Rattle.core_lanes.specs.declared.lane.Lane.{Lane}
 use Rattle.core_lanes.specs.declared.lanes.Core.{Core}
 use Rattle.core_lanes.specs.Lanes.{lane_state, room_of}
 use Rattle.core_lanes.specs.Changes.{Kept, Changes}
+use Rattle.core_lanes.specs.Comparisons.{ComparesFor}
 use Rattle.task_table.specs.Table.{Table}
 use Rattle.core_lanes.proofs.Stays.{some_beside, policies_of, lane_at, numbers_kept, queues_kept, alike_stays}
+use Rattle.core_lanes.proofs.Counted.{of_one}
+use Rattle.core_clock.proofs.Counted.{both_compare}
 use Rattle.core_clock.proofs.Clocks.{renewed_is, renewed_first, renewed_next, renewed_more, renewed_all, with_renewed}
 use Rattle.core_clock.proofs.Changes.{held_at, both_change, changes_as}
 use Rattle.core_clock.proofs.time.renew_siblings.Goals.{in-Some, in_default}
@@ -66,6 +69,8 @@ loop-cpu-preserved g c =
     let below : cpu < length c.args.core.now.lanes.items = omega (arith, c.loop-cpu-test.true, c.len-cpu-end.ensures, c.args.core.now.lanes.ok.0) in
     let inside : cpu < length lanes = omega (arith, below, ap (λ (kept : Kept). kept.siblings) c.loop-cpu.invariant.changes.stays.kept) in
     let here = lane_at lanes cpu lane inside is in
+    let counted = both_compare old mid cpu 1 (cpu + 1) c.args.steps.now c.loop-cpu.steps c.smallest_vtime.new.steps c.loop-cpu.invariant.changes.stays refl c.loop-cpu.invariant.counted
+    (omega (arith, c.smallest_vtime.ensures.counted, of_one g.Q.SiblingQueue.most_compared g.met.Q.SiblingQueue.rises c.args.table.now.tasks cpu)) in
     elim c.match-smallest_vtime.branch [
       | in-Some w ↦
           let after = record lane { ran = lane.ran + c.args.delta; least = w.max-lane.result } in
@@ -80,6 +85,7 @@ loop-cpu-preserved g c =
                   numbers = rw (numbers_kept lanes cpu lane after is refl) refl;
                   stays = alike_stays _ _ (queues_kept lanes cpu lane after is refl) refl refl;
                 }));
+            counted = counted;
           }
       | in_default w ↦
           let after = record lane { ran = lane.ran + c.args.delta } in
@@ -93,13 +99,20 @@ loop-cpu-preserved g c =
                   numbers = rw (numbers_kept lanes cpu lane after is refl) refl;
                   stays = alike_stays _ _ (queues_kept lanes cpu lane after is refl) refl refl;
                 }));
+            counted = counted;
           }
     ]
 
-pub returns : goal.returns
-returns g c =
+pub returns-clause-changes : goal.returns-clause-changes
+returns-clause-changes g c =
     let lanes = c.args.core.now.lanes in
     let cpu = c.loop-cpu.cpu in
     let all : cpu ≡ length (map lane_state lanes.items) =
     omega (arith, c.loop-cpu-test.false, c.loop-cpu.auto.cpu-end, c.len-cpu-end.ensures, lanes.ok.0, length-map lanes.items lane_state) in
     changes_as (λ beside. renewed_all c.args.delta cpu (room_of beside (c.args.core.now, c.args.table.now)) all) c.loop-cpu.invariant.changes
+
+pub returns-clause-counted : goal.returns-clause-counted
+returns-clause-counted g c =
+    let lanes = c.args.core.now.lanes in
+    let all : c.loop-cpu.cpu ≡ length lanes.items = omega (arith, c.loop-cpu-test.false, c.loop-cpu.auto.cpu-end, c.len-cpu-end.ensures, lanes.ok.0) in
+    subst (λ n. ComparesFor n (c.args.core.now, c.args.table.now) c.args.steps.now c.loop-cpu.steps) all c.loop-cpu.invariant.counted

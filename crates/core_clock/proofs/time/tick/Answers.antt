@@ -1,4 +1,4 @@
-use Rattle.std.proofs.Common.{◌≡◌, ◌∙◌, ap, subst, refl, Option, Some, None, ◌+◌, ◌<◌, ◌^◌, sym}
+use Rattle.std.proofs.Common.{◌≡◌, ◌∙◌, ap, subst, refl, arith, Option, Some, None, ◌+◌, ◌*◌, ◌<◌, ◌≤◌, ◌^◌, sym}
 use Rattle.std.specs.Option.{IsSome}
 use Rattle.cs_types.specs.declared.task.Task.{Task}
 use Rattle.cs_types.specs.declared.reply.Reply.TheVariants.{Ticked}
@@ -12,6 +12,7 @@ use Rattle.core_lanes.specs.declared.lanes.Core.{Core}
 use Rattle.core_lanes.specs.Lanes.{Beside, at, beside_after, room_of, BareCore}
 use Rattle.core_lanes.specs.Numbers.{booked, with_ended, numbers_in}
 use Rattle.core_lanes.proofs.Stays.{both_stay}
+use Rattle.core_lanes.proofs.Counted.{as_many_live}
 use Rattle.core_clock.proofs.Changes.{still_below}
 use Rattle.core_clock.proofs.time.tick.Goals as goal
 
@@ -30,7 +31,7 @@ asks_at_tick-asks-requires g c = record {
     at = record { cpu = still_below c.charge.ensures.charges.stays c.requires.at.cpu; agree = c.charge.ensures.charges.stays.agree c.requires.at.agree };
     there = c.in-Some.ensures.there;
   };
-  rotates = c.rotates-rotates.ensures;
+  rotates = c.rotates-rotates.ensures.rotates;
 }
 
 pub begin_slice-requires : goal.begin_slice-requires
@@ -41,14 +42,14 @@ begin_slice-requires g c = record {
 }
 
 pub flag-requires : goal.flag-requires
-flag-requires g c = still_below (both_stay c.charge.ensures.charges.stays (c.begin_slice.ensures c.args.cpu c.in-Some.task.now c.in-Some.ensures.there (record { slice = c.has_used_slice-used.ensures; peers = c.rotates-rotates.ensures })).stays) c.requires.at.cpu
+flag-requires g c = still_below (both_stay c.charge.ensures.charges.stays (c.begin_slice.ensures.changes c.args.cpu c.in-Some.task.now c.in-Some.ensures.there (record { slice = c.has_used_slice-used.ensures; peers = c.rotates-rotates.ensures.rotates })).stays) c.requires.at.cpu
 
 -- a core and its table stand for a room of which they have all but what is beside them
 stands : {Q : Type 0} {g : Ghosts Q} (beside : Beside) (both : Core Q g × Table) (room : RoomState) → room_of beside both ≡ room → room_of (beside_after beside room) both ≡ room
 stands beside both room is = subst (λ (r : RoomState). room_of (beside_after beside r) both ≡ r) is refl
 
-pub returns-in_default : goal.returns-in_default
-returns-in_default g c =
+pub returns-in_default-clause-ticks : goal.returns-in_default-clause-ticks
+returns-in_default-clause-ticks g c =
     let cpu = c.args.cpu in
     let made : (beside : Beside) → let room = room_of (at c.args.now beside) (c.args.core.now, c.args.table.now) in charge room ≡ (tick room cpu (running_on room cpu)).room =
     λ beside.
@@ -71,12 +72,12 @@ returns-in_default g c =
       };
     }
 
-pub returns : goal.returns
-returns g c =
+pub returns-clause-ticks : goal.returns-clause-ticks
+returns-clause-ticks g c =
     let cpu = c.args.cpu in
     let task = c.in-Some.task.now in
     let table = c.begin_slice.new.table in
-    let slice = c.begin_slice.ensures cpu task c.in-Some.ensures.there (record { slice = c.has_used_slice-used.ensures; peers = c.rotates-rotates.ensures }) in
+    let slice = c.begin_slice.ensures.changes cpu task c.in-Some.ensures.there (record { slice = c.has_used_slice-used.ensures; peers = c.rotates-rotates.ensures.rotates }) in
     let raised = c.flag.ensures table in
     record {
       asks = λ beside.
@@ -85,7 +86,7 @@ returns g c =
           let charged = c.charge.ensures.charges.room beside in
           let found : Some task ≡ running_on room cpu = c.in-Some.ensures.task paid ∙ ap (λ (now : RoomState). running_on now cpu) charged in
           let asks : c.asks_at_tick-asks.result ≡ asks_at_tick room cpu task =
-          c.asks_at_tick-asks.ensures paid ∙ ap (λ (now : RoomState). asks_at_tick now cpu task) charged in
+          c.asks_at_tick-asks.ensures.asks paid ∙ ap (λ (now : RoomState). asks_at_tick now cpu task) charged in
           ap Ticked asks ∙ ap (λ (found : Option Task). (tick room cpu found).reply) found;
       charges = record {
         room = λ beside.
@@ -94,7 +95,7 @@ returns g c =
             let charged = c.charge.ensures.charges.room beside in
             let found : Some task ≡ running_on room cpu = c.in-Some.ensures.task paid ∙ ap (λ (now : RoomState). running_on now cpu) charged in
             let asks : c.asks_at_tick-asks.result ≡ asks_at_tick room cpu task =
-            c.asks_at_tick-asks.ensures paid ∙ ap (λ (now : RoomState). asks_at_tick now cpu task) charged in
+            c.asks_at_tick-asks.ensures.asks paid ∙ ap (λ (now : RoomState). asks_at_tick now cpu task) charged in
             stands paid (c.flag.new.self, table) (tick room cpu (running_on room cpu)).room
             (raised.room paid
             ∙ ap (λ (now : RoomState). flag now cpu c.asks_at_tick-asks.result) (slice.room paid ∙ ap (λ (now : RoomState). begin_slice now cpu task) charged)
@@ -110,3 +111,9 @@ returns g c =
         stays = both_stay c.charge.ensures.charges.stays (both_stay slice.stays raised.stays);
       };
     }
+
+pub returns-clause-counted : goal.returns-clause-counted
+returns-clause-counted g c =
+    let many = as_many_live (c.args.core.now, c.args.table.now) (c.charge.new.core, c.charge.new.table) c.charge.ensures.charges.stays.kept in
+    subst (λ n. c.begin_slice.new.steps ≤ c.args.steps.now + 5 * g.Q.SiblingQueue.most_compared n) many
+    (omega (arith, c.rotates-rotates.ensures.counted, c.asks_at_tick-asks.ensures.counted, c.begin_slice.ensures.counted))
