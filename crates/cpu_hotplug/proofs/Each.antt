@@ -111,6 +111,10 @@ module _ {Q : Type 0} {g : Ghosts Q} (cpu to : ℕ) (places : List ℕ) (core : 
       all : count ≡ length (queued_among table.tasks cpu)
       all = omega (arith, movers_are, beyond, most)
 
+      -- so no more moved than live
+      pub within_all : count ≤ length table.tasks
+      within_all = omega (arith, all, few table.tasks cpu)
+
       pub tasks_all : now.1.tasks ≡ map (moved_off room cpu) table.tasks
       tasks_all =
           ap (λ (one : RoomState). one.tasks) (moved.room some_beside) ∙ (λ j. (so_far room cpu (all j)).tasks)

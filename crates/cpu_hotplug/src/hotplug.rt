@@ -1,11 +1,12 @@
 //! The two events of a sibling that leaves the core or comes back (`sched_core_cpu_deactivate` and
 //! `sched_core_cpu_starting`).
 
-ghost use Rattle.std.specs.Prelude.{◌*◌, ◌<◌, length};
+ghost use Rattle.std.specs.Prelude.{◌+◌, ◌*◌, ◌<◌, length};
 ghost use Rattle.cs_types.specs.Hotplug.{leave};
 ghost use Rattle.task_table.specs.Table.{Table};
 ghost use Rattle.core_lanes.specs.Queued.{queued_among};
 ghost use Rattle.core_lanes.specs.Charges.{ChargesAndTouches};
+ghost use Rattle.core_lanes.specs.Comparisons.{ComparesFor};
 ghost use Rattle.cpu_hotplug.specs.Hotplugs.{MayLeave, MayLeaveAnother, TakesOffline, BringsOnline};
 
 use crate::away::{online_count, set_back, set_one_away};
@@ -36,7 +37,8 @@ fn leave<Q: SiblingQueue, L: Ledger>(
     steps: &mut Steps<L>,
 )
     requires { MayLeaveAnother now cpu (core.old, table.old) }
-    ensures { ChargesAndTouches now (2 * length (queued_among table.old.tasks cpu)) (core.old, table.old) (core.new, table.new) (λ room. leave room cpu) }
+    ensures touches { ChargesAndTouches now (2 * length (queued_among table.old.tasks cpu)) (core.old, table.old) (core.new, table.new) (λ room. leave room cpu) }
+    ensures counted { ComparesFor (length table.old.tasks + 4) (core.old, table.old) steps.old steps.new }
 {
     charge(core, table, now);
     core.account.close();
@@ -53,7 +55,8 @@ pub fn offline<Q: SiblingQueue, L: Ledger>(
     steps: &mut Steps<L>,
 ) -> Hotplug
     requires { MayLeave now cpu (core.old, table.old) }
-    ensures { TakesOffline now (core.old, table.old) (core.new, table.new) cpu result }
+    ensures leaves { TakesOffline now (core.old, table.old) (core.new, table.new) cpu result }
+    ensures counted { ComparesFor (length table.old.tasks + 4) (core.old, table.old) steps.old steps.new }
 {
     if !core.is_online(cpu) {
         return Hotplug::Already;

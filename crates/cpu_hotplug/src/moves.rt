@@ -1,10 +1,11 @@
 //! How the tasks of a sibling that leaves come to another. It is apart, since it alone gives them new stamps.
 
-ghost use Rattle.std.specs.Prelude.{◌*◌, ◌<◌, length, IsTrue};
+ghost use Rattle.std.specs.Prelude.{◌+◌, ◌*◌, ◌<◌, length, IsTrue};
 ghost use Rattle.cs_types.specs.Hotplug.{move_off};
 ghost use Rattle.core_lanes.specs.Queued.{queued_among};
 ghost use Rattle.core_lanes.specs.Lanes.{AgreesAt};
 ghost use Rattle.core_lanes.specs.Changes.{Touches};
+ghost use Rattle.core_lanes.specs.Comparisons.{ComparesFor};
 ghost use Rattle.cpu_hotplug.specs.Leaves.{MayMoveOff, MayMoveAllTo, MovesWhole};
 
 use crate::away::lowest_other;
@@ -24,7 +25,8 @@ pub fn move_off<Q: SiblingQueue, L: Ledger>(
     steps: &mut Steps<L>,
 )
     requires { MayMoveOff cpu (core.old, table.old) }
-    ensures { Touches (2 * length (queued_among table.old.tasks cpu)) (core.old, table.old) (core.new, table.new) (λ room. move_off room cpu) }
+    ensures touches { Touches (2 * length (queued_among table.old.tasks cpu)) (core.old, table.old) (core.new, table.new) (λ room. move_off room cpu) }
+    ensures counted { ComparesFor (length table.old.tasks + 4) (core.old, table.old) steps.old steps.new }
 {
     let count = core.lanes[cpu as usize].queue.count(table, cpu);
     if count == 0 {
@@ -51,7 +53,8 @@ fn may_exchange<Q: SiblingQueue, L: Ledger>(
 ) -> bool
     requires at { AgreesAt cpu (core.now, table.now) }
     requires other { to < length core.now.lanes.items }
-    ensures { IsTrue result → MovesWhole cpu to (core.now, table.now) }
+    ensures whole { IsTrue result → MovesWhole cpu to (core.now, table.now) }
+    ensures counted { ComparesFor 1 (core.now, table.now) steps.old steps.new }
 {
     if core.lanes[to as usize].queue.count(table, to) > 0 {
         return false;
@@ -75,7 +78,8 @@ fn move_queue<Q: SiblingQueue, L: Ledger>(
 )
     requires to { MayMoveAllTo cpu to movers.old (core.old, table.old) }
     requires whole { MovesWhole cpu to (core.old, table.old) }
-    ensures { Touches (2 * length (queued_among table.old.tasks cpu)) (core.old, table.old) (core.new, table.new) (λ room. move_off room cpu) }
+    ensures touches { Touches (2 * length (queued_among table.old.tasks cpu)) (core.old, table.old) (core.new, table.new) (λ room. move_off room cpu) }
+    ensures counted { ComparesFor 3 (core.old, table.old) steps.old steps.new }
 {
     core.tell_queued(table, cpu, movers);
     for mover in movers.iter() {
@@ -94,7 +98,8 @@ fn move_each<Q: SiblingQueue, L: Ledger>(
     steps: &mut Steps<L>,
 )
     requires { MayMoveAllTo cpu to movers.old (core.old, table.old) }
-    ensures { Touches (2 * length (queued_among table.old.tasks cpu)) (core.old, table.old) (core.new, table.new) (λ room. move_off room cpu) }
+    ensures touches { Touches (2 * length (queued_among table.old.tasks cpu)) (core.old, table.old) (core.new, table.new) (λ room. move_off room cpu) }
+    ensures counted { ComparesFor (length table.old.tasks) (core.old, table.old) steps.old steps.new }
 {
     core.empty_queue(table, cpu, movers);
     for mover in movers.iter() {

@@ -45,9 +45,9 @@ invariant_of-core-2 g c =
 
 -- ---- the room
 
-pub returns : goal.returns
+pub returns-clause-touches : goal.returns-clause-touches
 unfolding leave
-returns g c =
+returns-clause-touches g c =
     let cpu = c.args.cpu in
     let moved = c.move_off.new.core in
     let account = c.close.new.self in
@@ -58,7 +58,7 @@ returns g c =
           let paid = beside_after (at c.args.now beside) (charge room) in
           let shut : room_of paid (c.charge.new.core, c.charge.new.table) ≡ charge room = c.charge.ensures.charges.room beside in
           let before = ap (λ (r : RoomState). with_account r account) shut ∙ without_interval_is (charge room) account c.close.ensures.count c.close.ensures.occupation c.close.ensures.started in
-          let after : room_of paid (moved, c.move_off.new.table) ≡ move_off (without_interval (charge room)) cpu = c.move_off.ensures.room paid ∙ ap (λ (r : RoomState). move_off r cpu) before in
+          let after : room_of paid (moved, c.move_off.new.table) ≡ move_off (without_interval (charge room)) cpu = c.move_off.ensures.touches.room paid ∙ ap (λ (r : RoomState). move_off r cpu) before in
           let states : map lane_state c.set_one_away.new.lanes ≡ map (left cpu) (enumerate_from 0 room.siblings) =
           c.set_one_away.ensures.states
           ∙ ap (λ (lanes : List (Lane g.row.Q.Denot)). map (left cpu) (enumerate_from 0 (map lane_state lanes))) c.deref_mut.ensures.value
@@ -74,11 +74,11 @@ returns g c =
           ∙ c.charge.ensures.charges.numbers beside booked_before in
           ap (λ (lanes : List (Lane g.row.Q.Denot)). let next : Numbers = record (numbers_in beside (moved, c.move_off.new.table)) { own = map number_of lanes } in next) kept
           ∙ (λ i. let next : Numbers = record (numbers_in beside (moved, c.move_off.new.table)) { own = own i } in next)
-          ∙ ap (with_ended beside.ended) c.move_off.ensures.numbers
+          ∙ ap (with_ended beside.ended) c.move_off.ensures.touches.numbers
           ∙ (λ i. touched (2 * length (queued_among (c.charge.ensures.table i).tasks cpu)) (charged i));
       stays =
           both_stay c.charge.ensures.charges.stays
           (both_stay (alike_stays _ _ refl refl refl)
-          (both_stay c.move_off.ensures.stays
+          (both_stay c.move_off.ensures.touches.stays
           (alike_stays _ _ (ap (map queue_of) kept ∙ c.set_one_away.ensures.queues ∙ ap (map queue_of) c.deref_mut.ensures.value) refl refl)));
     }

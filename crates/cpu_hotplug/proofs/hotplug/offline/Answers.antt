@@ -59,21 +59,21 @@ leave-requires g c = record {
       (λ alone. c.if-online_count-eq1.false (c.online_count.ensures beside table ∙ alone));
 }
 
-pub returns-then-not-is_online : goal.returns-then-not-is_online
-returns-then-not-is_online g c =
+pub returns-then-not-is_online-clause-leaves : goal.returns-then-not-is_online-clause-leaves
+returns-then-not-is_online-clause-leaves g c =
     refused c.args.now c.args.cpu c.args.core.now c.args.table.now Already (λ queued. refl) (λ beside.
     offline_step (room_of (at c.args.now beside) (c.args.core.now, c.args.table.now)) c.args.cpu false _
     (sym (c.is_online.ensures (at c.args.now beside) c.args.table.now) ∙ c.if-not-is_online.true) refl)
 
-pub returns-then-online_count-eq1 : goal.returns-then-online_count-eq1
-returns-then-online_count-eq1 g c =
+pub returns-then-online_count-eq1-clause-leaves : goal.returns-then-online_count-eq1-clause-leaves
+returns-then-online_count-eq1-clause-leaves g c =
     refused c.args.now c.args.cpu c.args.core.now c.args.table.now Busy (λ queued. refl) (λ beside.
     let room = room_of (at c.args.now beside) (c.args.core.now, c.args.table.now) in
     offline_step room c.args.cpu true true (sym (c.is_online.ensures (at c.args.now beside) c.args.table.now) ∙ c.if-not-is_online.false)
     (eq-eqb (length (online room)) 1 (sym (c.online_count.ensures (at c.args.now beside) c.args.table.now) ∙ c.if-online_count-eq1.true)))
 
-pub returns : goal.returns
-returns g c =
+pub returns-clause-leaves : goal.returns-clause-leaves
+returns-clause-leaves g c =
     let step = λ (beside : Beside).
     let room = room_of (at c.args.now beside) (c.args.core.now, c.args.table.now) in
     let several = ne_eqb (length (online room)) 1 (λ alone. c.if-online_count-eq1.false (c.online_count.ensures (at c.args.now beside) c.args.table.now ∙ alone)) in
@@ -81,10 +81,10 @@ returns g c =
     record {
       reply = λ beside. ap (λ (made : Stepped). made.reply) (step beside);
       room = λ beside.
-          subst (λ (made : Stepped). room_of (beside_after (at c.args.now beside) made.room) (c.leave.new.core, c.leave.new.table) ≡ made.room) (step beside) (c.leave.ensures.room beside);
+          subst (λ (made : Stepped). room_of (beside_after (at c.args.now beside) made.room) (c.leave.new.core, c.leave.new.table) ≡ made.room) (step beside) (c.leave.ensures.touches.room beside);
       numbers = λ beside kept.
           subst (λ (made : Stepped). numbers_in beside (c.leave.new.core, c.leave.new.table)
-          ≡ touched (leave_touches Done (length (queued_among c.args.table.now.tasks c.args.cpu))) (booked made.room (numbers_in beside (c.args.core.now, c.args.table.now)))) (step beside) (c.leave.ensures.numbers beside kept);
+          ≡ touched (leave_touches Done (length (queued_among c.args.table.now.tasks c.args.cpu))) (booked made.room (numbers_in beside (c.args.core.now, c.args.table.now)))) (step beside) (c.leave.ensures.touches.numbers beside kept);
       unchanged = λ not_done. absurd (not_done refl);
-      stays = c.leave.ensures.stays;
+      stays = c.leave.ensures.touches.stays;
     }

@@ -5,12 +5,13 @@ use Rattle.cs_types.specs.Room.{SiblingState, sibling_of}
 use Rattle.core_lanes.specs.Queued.{queued_among}
 use Rattle.core_lanes.specs.Lanes.{room_of}
 use Rattle.core_lanes.proofs.Stays.{lane_at}
+use Rattle.core_lanes.proofs.Counted.{of_one}
 use Rattle.cpu_hotplug.specs.Leaves.{NoneBehind}
 use Rattle.cpu_hotplug.proofs.Moving.{ahead_some, ahead_none}
 use Rattle.cpu_hotplug.proofs.moves.may_exchange.Goals as goal
 
-pub returns-in-Some : goal.returns-in-Some
-returns-in-Some g c below =
+pub returns-in-Some-clause-whole : goal.returns-in-Some-clause-whole
+returns-in-Some-clause-whole g c below =
     let lane = c.index-lane.result.now in
     let tasks = queued_among c.args.table.now.tasks c.args.cpu in
     let is = lane_at c.args.core.now.lanes.items c.args.cpu lane c.requires.at.cpu c.index-lane.ensures in
@@ -21,10 +22,18 @@ returns-in-Some g c below =
           (ahead_some lane.least c.in-Some.smallest tasks (sym c.in-Some.ensures.answer) (leb-true lane.least c.in-Some.smallest below));
     }
 
-pub returns-in-None : goal.returns-in-None
-returns-in-None g c is =
+pub returns-in-None-clause-whole : goal.returns-in-None-clause-whole
+returns-in-None-clause-whole g c is =
     let tasks = queued_among c.args.table.now.tasks c.args.cpu in
     record {
       empty = nil_from_length _ (omega (arith, c.count.ensures, c.if-count-gt0.false));
       ahead = λ beside. ahead_none (sibling_of (room_of beside (c.args.core.now, c.args.table.now)) c.args.cpu).least tasks (sym c.in-None.ensures.answer);
     }
+
+pub returns-in-Some-clause-counted : goal.returns-in-Some-clause-counted
+returns-in-Some-clause-counted g c =
+    omega (arith, c.smallest_vtime.ensures.counted, of_one g.Q.SiblingQueue.most_compared g.met.Q.SiblingQueue.rises c.args.table.now.tasks c.args.cpu)
+
+pub returns-in-None-clause-counted : goal.returns-in-None-clause-counted
+returns-in-None-clause-counted g c =
+    omega (arith, c.smallest_vtime.ensures.counted, of_one g.Q.SiblingQueue.most_compared g.met.Q.SiblingQueue.rises c.args.table.now.tasks c.args.cpu)

@@ -13,8 +13,8 @@ use Rattle.cpu_hotplug.proofs.moves.move_off.Goals as goal
 
 -- ---- where none is queued there
 
-pub returns-then-count-eq0 : goal.returns-then-count-eq0
-returns-then-count-eq0 g c =
+pub returns-then-count-eq0-clause-touches : goal.returns-then-count-eq0-clause-touches
+returns-then-count-eq0-clause-touches g c =
     let core = c.args.core.now in
     let table = c.args.table.now in
     let none : length (queued_among table.tasks c.args.cpu) ≡ 0 = omega (arith, c.if-count-eq0.true, c.count-count.ensures) in
@@ -60,7 +60,7 @@ move_queue-requires g c = record {
     within = c.lowest_other-to.ensures.within;
     tell = may_tell (c.args.core.now, c.args.table.now) c.args.cpu c.count-count.result c.requires.may.agree c.count-count.ensures _ refl c.requires.may.cpu;
   };
-  whole = c.may_exchange.ensures c.if-may_exchange.true;
+  whole = c.may_exchange.ensures.whole c.if-may_exchange.true;
 }
 
 -- ---- or one by one

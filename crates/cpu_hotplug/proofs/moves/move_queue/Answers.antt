@@ -1,4 +1,4 @@
-use Rattle.std.proofs.Common.{Some, ◌≡◌, ◌<◌, ℕ, List, [], ◌≢◌, subst, sym, ap, ◌∙◌, arith, refl, length, map}
+use Rattle.std.proofs.Common.{Some, ◌≡◌, ◌+◌, ◌*◌, ◌<◌, ◌≤◌, ℕ, List, [], ◌≢◌, subst, sym, ap, ◌∙◌, arith, refl, length, map}
 use Rattle.std.specs.Prelude.{All, slice_get}
 use Rattle.std.specs.Global.{Vec}
 use Rattle.task_table.specs.Table.{Table}
@@ -16,6 +16,7 @@ use Rattle.core_lanes.specs.Lanes.{BareCore, bare, queues_of, room_by, room_of, 
 use Rattle.core_lanes.specs.Numbers.{numbers_by}
 use Rattle.core_lanes.specs.Changes.{Kept, kept_of}
 use Rattle.core_lanes.proofs.Stays.{some_beside, as_many_bare, queue_of}
+use Rattle.core_lanes.proofs.Counted.{as_many_live}
 use Rattle.cpu_hotplug.specs.Leaves.{NoneBehind}
 use Rattle.cpu_hotplug.proofs.Leaving.{none_left}
 use Rattle.cpu_hotplug.proofs.Moving.{least_from, least_to, anew, moved_there, elsewhere, none_behind}
@@ -115,8 +116,8 @@ exchange-requires g c =
     c.loop-mover.auto.mover-index-end (c.loop-mover.core, c.loop-mover.table) moved) to.may.cpu to.within
     (λ is. to.another some_beside (sym (to.lowest some_beside table) ∙ sym is)) c.requires.whole.empty (c.requires.whole.ahead some_beside)
 
-pub returns : goal.returns
-returns g c =
+pub returns-clause-touches : goal.returns-clause-touches
+returns-clause-touches g c =
     let core = c.args.core.now in
     let table = c.args.table.now in
     let cpu = c.args.cpu in
@@ -126,7 +127,7 @@ returns g c =
     let most = c.loop-mover.auto.mover-index-end in
     let pids = c.tell_queued.new.movers in
     let told = c.tell_queued.ensures.told in
-    let bare_is = c.exchange.ensures.bare in
+    let bare_is = c.exchange.ensures.queues.bare in
     record {
       room = λ beside.
           (λ j. room_by beside (bare_is j) c.loop-mover.table)
@@ -134,9 +135,14 @@ returns g c =
       numbers = (λ j. numbers_by (bare_is j) c.loop-mover.table)
           ∙ numbers_all cpu c.args.to c.args.movers.now core table c.requires.to pids told count (omega (arith, beyond)) most (c.loop-mover.core, c.loop-mover.table) moved;
       stays = record {
-        agree = λ agree. agree_by c.loop-mover.core c.exchange.new.self c.loop-mover.table moved.agree bare_is c.exchange.ensures.held;
+        agree = λ agree. agree_by c.loop-mover.core c.exchange.new.self c.loop-mover.table moved.agree bare_is c.exchange.ensures.queues.held;
         kept =
             (λ j. let kept : Kept = record (kept_of (c.loop-mover.core, c.loop-mover.table)) { siblings = as_many_bare c.loop-mover.core c.exchange.new.self bare_is j } in kept)
             ∙ moved.kept;
       };
     }
+
+pub returns-clause-counted : goal.returns-clause-counted
+returns-clause-counted g c =
+    let many = as_many_live (c.args.core.now, c.args.table.now) (c.loop-mover.core, c.loop-mover.table) c.loop-mover.invariant.moved.kept in
+    subst (λ n. c.exchange.new.steps ≤ c.args.steps.now + 3 * g.Q.SiblingQueue.most_compared n) many c.exchange.ensures.counted
