@@ -1,12 +1,11 @@
 -- Onlines: the lowest sibling that is online, and how many are, counted among the siblings and among their numbers.
-use Rattle.std.proofs.Common.{◌≡◌, inl, inr, ℕ, zero, suc, ◌+◌, ◌<◌, ◌≤◌, Bool, true, false, not, List, [], ◌∷◌, ◌++◌, map, refl, sym, ap, ◌∙◌, length, get_or, arith, Option, Some, None, eq-eqb, ne_eqb}
-use Rattle.std.specs.Prelude.{find, filter, unwrap_or, ◌&&◌, ◌==◌}
+use Rattle.std.proofs.Common.{◌≡◌, ℕ, zero, suc, ◌+◌, ◌<◌, Bool, true, false, List, [], ◌∷◌, ◌++◌, map, refl, sym, ap, ◌∙◌, length, get_or, arith, Some, None}
+use Rattle.std.specs.Prelude.{find, filter, unwrap_or}
 use Rattle.std.specs.List.{range_with_len}
-use Rattle.std.proofs.lemmas.Bool.{and_parts, cases_Bool, cond-true, cond-false, eqb-true, eqb-false}
+use Rattle.std.proofs.lemmas.Bool.{cond-true, cond-false}
 use Rattle.std.proofs.lemmas.List.{length-map}
-use Rattle.cs_types.specs.Room.{RoomState, SiblingState, online, is_online, absent}
-use Rattle.cs_types.specs.Hotplug.{lowest_other}
-use Rattle.cs_types.proofs.Foremost.{find-append_none, find_passes}
+use Rattle.cs_types.specs.Room.{SiblingState, online, is_online, absent}
+use Rattle.cs_types.proofs.Foremost.{find-append_none}
 use Rattle.task_table.specs.Table.{Table}
 use Rattle.core_lanes.specs.declared.queue.SiblingQueue.{Ghosts}
 use Rattle.core_lanes.specs.declared.lane.Lane.{Lane}
@@ -75,70 +74,3 @@ length-online {Q} beside both =
     sym (length-map (filter (λ (lane : Lane Q). lane.online) lanes) lane_state)
     ∙ ap length (sym (filter-map lane_state (λ (sibling : SiblingState). sibling.online) lanes))
     ∙ length-filter_places (λ (sibling : SiblingState). sibling.online) (map lane_state lanes) absent
-
--- ---- another one
-
-module _ (p : ℕ → Bool) (cpu : ℕ) where
-  -- whether a number passes, and is another
-  abbrev passes : ℕ → Bool
-  passes other = p other && not (other == cpu)
-
-  -- Where no other passes in a range, the first does not, and no other in the rest does.
-  first_fails : (a n : ℕ) → find passes (range_with_len a (suc n)) ≡ None → (passes a ≡ false) × (find passes (range_with_len (a + 1) n) ≡ None)
-  first_fails a n none =
-      elim (cases_Bool (passes a)) [
-        | inl found ↦
-            let is : Some a ≡ None = sym (cond-true (passes a) (Some a) (find passes (range_with_len (a + 1) n)) found) ∙ none in
-            absurd cc
-        | inr fails ↦ (fails, sym (cond-false (passes a) (Some a) (find passes (range_with_len (a + 1) n)) fails) ∙ none)
-      ]
-
-  -- another that does not pass so does not pass at all
-  fails_too : (other : ℕ) → (other ≡ cpu → ⊥) → passes other ≡ false → p other ≡ false
-  fails_too other differs fails =
-      elim (cases_Bool (p other)) [
-        | inl on ↦
-            let both : false ≡ true = sym fails ∙ (λ i. on i && not (ne_eqb other cpu differs i)) in
-            absurd cc
-        | inr off ↦ off
-      ]
-
-  none_behind : (a n : ℕ) → cpu < a → find passes (range_with_len a n) ≡ None → filter p (range_with_len a n) ≡ []
-  none_behind a zero above none = refl
-  none_behind a (suc n) above none =
-      let first = first_fails a n none in
-      cond-false (p a) (a ∷ filter p (range_with_len (a + 1) n)) (filter p (range_with_len (a + 1) n)) (fails_too a (λ e. omega (arith, e, above)) first.0)
-      ∙ none_behind (a + 1) n (omega arith) first.1
-
-  -- so the number is the only one that passes
-  alone : (a n : ℕ) → a ≤ cpu → cpu < a + n → p cpu ≡ true → find passes (range_with_len a n) ≡ None → length (filter p (range_with_len a n)) ≡ 1
-  alone a zero low high on none = absurd (omega arith)
-  alone a (suc n) low high on none =
-      let first = first_fails a n none in
-      let rest = filter p (range_with_len (a + 1) n) in
-      elim (cases_Bool (a == cpu)) [
-        | inl here ↦
-            let is = eqb-true a cpu here in
-            ap length (cond-true (p a) (a ∷ rest) rest (ap p is ∙ on)) ∙ ap (λ (ns : List ℕ). length (a ∷ ns)) (none_behind (a + 1) n (omega (arith, is)) first.1)
-        | inr other ↦
-            let differs = eqb-false a cpu other in
-            ap length (cond-false (p a) (a ∷ rest) rest (fails_too a differs first.0))
-            ∙ alone (a + 1) n (omega (arith, differs)) (omega arith) on first.1
-      ]
-
--- The lowest other sibling is another where one is online beside others.
-pub another : (room : RoomState) (cpu : ℕ) → cpu < length room.siblings → is_online room cpu ≡ true → (length (online room) ≡ 1 → ⊥) → lowest_other room cpu ≡ cpu → ⊥
-another room cpu below on several = by_find (find test range) refl where
-  range : List ℕ
-  range = range_with_len 0 (length room.siblings)
-
-  test : ℕ → Bool
-  test other = is_online room other && not (other == cpu)
-
-  by_find : (found : Option ℕ) → find test range ≡ found → unwrap_or (find test range) 0 ≡ cpu → ⊥
-  by_find None none same = several (alone (is_online room) cpu 0 (length room.siblings) (omega arith) (omega (arith, below)) on none)
-  by_find (Some other) is same =
-      let differs = (and_parts (is_online room other) (not (other == cpu)) (find_passes test range other is)).1 in
-      let here : other ≡ cpu = sym (ap (λ found. unwrap_or found 0) is) ∙ same in
-      let both : false ≡ true = sym (ap not (eq-eqb other cpu here)) ∙ differs in
-      absurd cc

@@ -7,12 +7,9 @@ use Rattle.cs_types.specs.Room.{RoomState, is_online}
 use Rattle.task_table.specs.Table.{Table}
 use Rattle.core_lanes.specs.Lanes.{Beside, lane_state, room_of}
 use Rattle.core_lanes.proofs.Onlines.{none_more, first_found, online_is}
+use Rattle.cpu_hotplug.proofs.away.lowest_other.Invariants.{is_other}
 use Rattle.cpu_hotplug.proofs.away.lowest_other.Goals as goal
 use Rattle.cpu_hotplug.proofs.away.lowest_other.Goals.{else-index-via-then-index+else-other-cpu, else-index-via-else-index}
-
--- whether a sibling is online and another than this one
-abbrev is_other : RoomState → ℕ → ℕ → Bool
-is_other room cpu other = is_online room other && not (other == cpu)
 
 pub returns-then-other-cpu-clause-lowest : goal.returns-then-other-cpu-clause-lowest
 returns-then-other-cpu-clause-lowest g c beside table =

@@ -13,7 +13,7 @@ use Rattle.core_lanes.proofs.Stays.{same_stays}
 use Rattle.cpu_hotplug.specs.Hotplugs.{reply_of, leave_touches, TakesOffline}
 use Rattle.cpu_hotplug.specs.declared.hotplug.Hotplug.{Hotplug}
 use Rattle.cpu_hotplug.specs.declared.hotplug.Hotplug.TheVariants.{Done, Busy, Already}
-use Rattle.core_lanes.proofs.Onlines.{another}
+use Rattle.cs_types.proofs.Places.{lowest_other_is}
 use Rattle.cpu_hotplug.proofs.Steps.{offline_step}
 use Rattle.cpu_hotplug.proofs.hotplug.offline.Goals as goal
 
@@ -54,9 +54,9 @@ leave-requires g c = record {
   another = λ beside.
       let core = c.args.core.now in
       let table = c.args.table.now in
-      another (room_of beside (core, table)) c.args.cpu (omega (arith, c.requires.moves.cpu, length-map core.lanes.items lane_state))
+      (lowest_other_is (room_of beside (core, table)) c.args.cpu (omega (arith, c.requires.moves.cpu, length-map core.lanes.items lane_state))
       (sym (c.is_online.ensures beside table) ∙ c.if-not-is_online.false)
-      (λ alone. c.if-online_count-eq1.false (c.online_count.ensures beside table ∙ alone));
+      (λ alone. c.if-online_count-eq1.false (c.online_count.ensures beside table ∙ alone))).2;
 }
 
 pub returns-then-not-is_online-clause-leaves : goal.returns-then-not-is_online-clause-leaves
