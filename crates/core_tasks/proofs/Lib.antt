@@ -4,4 +4,5 @@ pub mod Starts
 pub mod Lives
 pub mod Runners
 pub mod Settings
+pub mod Counted
 pub mod Pending

@@ -7,6 +7,8 @@ ghost use Rattle.task_table.specs.Group.{group_above};
 ghost use Rattle.prctl_core.specs.Plan.{named};
 ghost use Rattle.core_lanes.specs.Lanes.{lane_state};
 ghost use Rattle.core_lanes.specs.Changes.{ChangesLanes};
+ghost use Rattle.core_lanes.specs.Comparisons.{ComparesFor};
+ghost use Rattle.core_tasks.specs.State.{both};
 ghost use Rattle.core_tasks.specs.Steps.{Makes};
 ghost use Rattle.core_tasks.specs.Cookies.{flagged_for, RunsAtMostAt, MaySet, MaySetOne, MayCall, SetsCookies};
 
@@ -45,7 +47,8 @@ impl<Q: SiblingQueue, G: Guard> State<Q, G> {
     #[inline(always)]
     fn set_cookie<L: Ledger>(&mut self, task: &Task, cookie: Cookie, steps: &mut Steps<L>)
         requires { MaySetOne cookie self.old task.now }
-        ensures { SetsCookies self.old self.new (task.now ∷ []) cookie }
+        ensures sets { SetsCookies self.old self.new (task.now ∷ []) cookie }
+        ensures counted { ComparesFor 1 (both self.old) steps.old steps.new }
     {
         self.refs.get(cookie);
         self.refs.put(task.cookie);
@@ -57,7 +60,8 @@ impl<Q: SiblingQueue, G: Guard> State<Q, G> {
     /// The members of the group have the cookie, by rising pid.
     fn set_group<L: Ledger>(&mut self, group: Group, cookie: Cookie, steps: &mut Steps<L>)
         requires { MaySet cookie (2 * length self.old.tasks.tasks + 2) self.old }
-        ensures { SetsCookies self.old self.new (group_above group 0 self.old.tasks.tasks) cookie }
+        ensures sets { SetsCookies self.old self.new (group_above group 0 self.old.tasks.tasks) cookie }
+        ensures counted { ComparesFor (length self.old.tasks.tasks) (both self.old) steps.old steps.new }
     {
         let mut after = self.tasks.below(group);
         for _ in 0..self.tasks.most_in(group) {
@@ -72,7 +76,8 @@ impl<Q: SiblingQueue, G: Guard> State<Q, G> {
     /// The tasks that the target names have the cookie.
     fn set_cookies<L: Ledger>(&mut self, to: Target, cookie: Cookie, steps: &mut Steps<L>)
         requires { MaySet cookie (2 * length self.old.tasks.tasks + 2) self.old }
-        ensures { SetsCookies self.old self.new (named to self.old.tasks.tasks) cookie }
+        ensures sets { SetsCookies self.old self.new (named to self.old.tasks.tasks) cookie }
+        ensures counted { ComparesFor (length self.old.tasks.tasks) (both self.old) steps.old steps.new }
     {
         match to {
             Target::Nobody => {}
@@ -95,7 +100,8 @@ impl<Q: SiblingQueue, G: Guard> State<Q, G> {
         steps: &mut Steps<L>,
     ) -> Reply
         requires { MayCall online self.old }
-        ensures { Makes self.old self.new (Prctl pid ask) result }
+        ensures makes { Makes self.old self.new (Prctl pid ask) result }
+        ensures counted { ComparesFor (length self.old.tasks.tasks) (both self.old) steps.old steps.new }
     {
         let planned = plan(
             &self.tasks,

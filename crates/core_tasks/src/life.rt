@@ -1,6 +1,9 @@
 //! How a task comes and goes. It is a file of its own since nothing else changes who lives.
 
+ghost use Rattle.std.specs.Prelude.{ℕ, ◌+◌, ◌*◌, ◌≤◌, length};
 ghost use Rattle.cs_types.specs.Step.{without};
+ghost use Rattle.core_lanes.specs.Comparisons.{ComparesFor};
+ghost use Rattle.core_tasks.specs.State.{both};
 ghost use Rattle.core_tasks.specs.Steps.{Touches};
 ghost use Rattle.core_tasks.specs.Life.{MayEnd, MayMakeChild, MakesChild};
 
@@ -15,7 +18,8 @@ impl<Q: SiblingQueue, G: Guard> State<Q, G> {
     /// The task is no longer among the living, and is the last of the ended, with what it was charged.
     pub fn end<L: Ledger>(&mut self, task: Task, steps: &mut Steps<L>)
         requires { MayEnd task self.old }
-        ensures { Touches 1 self.old self.new (λ room. without room task) }
+        ensures touches { Touches 1 self.old self.new (λ room. without room task) }
+        ensures counted { ComparesFor 2 (both self.old) steps.old steps.new }
     {
         self.core.dequeue(&mut self.tasks, task, steps);
         let (_, forced) = end_alone(&mut self.tasks, &mut self.refs, task.spec.pid);

@@ -54,7 +54,7 @@ dequeue-requires g c = record {
 pub end_alone-forced-requires-clause-asleep : goal.end_alone-forced-requires-clause-asleep
 end_alone-forced-requires-clause-asleep g c =
     subst (λ one. IsSomeAnd one (λ (task : Task). task.queued ≡ false))
-    (sym (found (both c.args.self.now) (c.dequeue.new.self, c.dequeue.new.table) c.args.task c.dequeue.ensures.room c.requires.there)) refl
+    (sym (found (both c.args.self.now) (c.dequeue.new.self, c.dequeue.new.table) c.args.task c.dequeue.ensures.touches.room c.requires.there)) refl
 
 pub end_alone-forced-requires-clause-alone : goal.end_alone-forced-requires-clause-alone
 end_alone-forced-requires-clause-alone g c room same =
@@ -63,16 +63,16 @@ end_alone-forced-requires-clause-alone g c room same =
     let table = c.dequeue.new.table in
     let asleep : Task = record c.args.task { queued = false } in
     subst (λ one. IfSome one (λ (task : Task). has_threads room task ≡ false))
-    (sym (found old (mid, table) c.args.task c.dequeue.ensures.room c.requires.there))
+    (sym (found old (mid, table) c.args.task c.dequeue.ensures.touches.room c.requires.there))
     (ap (λ (tasks : List Task). let with_these : RoomState = record room { tasks = tasks } in has_threads with_these asleep) same
-    ∙ alone old (mid, table) c.args.task c.dequeue.ensures.room (c.requires.alone []))
+    ∙ alone old (mid, table) c.args.task c.dequeue.ensures.touches.room (c.requires.alone []))
 
 pub end_alone-forced-requires-clause-agree : goal.end_alone-forced-requires-clause-agree
 end_alone-forced-requires-clause-agree g c =
-    ((lifted c.args.self.now (c.dequeue.new.self, c.dequeue.new.table) c.dequeue.ensures.stays).sound c.requires.sound).refs
+    ((lifted c.args.self.now (c.dequeue.new.self, c.dequeue.new.table) c.dequeue.ensures.touches.stays).sound c.requires.sound).refs
 
-pub returns : goal.returns
-returns g c =
+pub returns-clause-touches : goal.returns-clause-touches
+returns-clause-touches g c =
     let old = c.args.self.now in
     let mid = c.dequeue.new.self in
     let table = c.dequeue.new.table in
@@ -82,7 +82,7 @@ returns g c =
     let gone = λ (other : Task). not (has_pid pid other) in
     let less : Table = record table { tasks = but pid table.tasks; totals = c.end_alone-forced.new.table.totals } in
     let ended : c.end_alone-forced.new.table ≡ less = c.end_alone-forced.ensures.ended in
-    let there = found (both old) (mid, table) task c.dequeue.ensures.room c.requires.there in
+    let there = found (both old) (mid, table) task c.dequeue.ensures.touches.room c.requires.there in
     let forced : c.end_alone-forced.result.1 ≡ total_in table pid = c.end_alone-forced.ensures.forced in
     let moved : (other : ℕ) → total_in c.end_alone-forced.new.table other + total_among c.push_reserved.new.self.items other ≡ total_in table other + total_among old.ended.items other =
     λ other. ap (λ (items : List (ℕ × ℕ)). total_in c.end_alone-forced.new.table other + total_among items other) c.push_reserved.ensures.items
@@ -91,12 +91,12 @@ returns g c =
       room = λ intervals.
           let beside = beside_of intervals old in
           (λ i. room_by (record beside { cookie_limit = c.end_alone-forced.ensures.limit i; ended = c.push_reserved.ensures.items i; next_cookie = c.end_alone-forced.ensures.next i }) (bare mid) (ended i))
-          ∙ (λ i. let left : RoomState = record (c.dequeue.ensures.room beside i) { tasks = but pid (c.dequeue.ensures.room beside i).tasks; ended = map_push (λ (one : ℕ × ℕ). one.0) old.ended.items (pid, c.end_alone-forced.result.1) i } in left)
+          ∙ (λ i. let left : RoomState = record (c.dequeue.ensures.touches.room beside i) { tasks = but pid (c.dequeue.ensures.touches.room beside i).tasks; ended = map_push (λ (one : ℕ × ℕ). one.0) old.ended.items (pid, c.end_alone-forced.result.1) i } in left)
           ∙ ap (λ (tasks : List Task). let left : RoomState = record (room_with intervals old) { tasks = tasks; ended = map (λ one. one.0) old.ended.items ++ pid ∷ [] } in left) (but-changed asleep old.tasks.tasks);
       numbers =
           (λ i. record (state_numbers old) { task = mid.task_number; pick = mid.pick_number; own = (bare mid).own; intervals = mid.account.intervals; totals = λ other. moved other i })
-          ∙ ap (with_ended old.ended.items) c.dequeue.ensures.numbers;
-      stays = both_stay (lifted old (mid, table) c.dequeue.ensures.stays) (record {
+          ∙ ap (with_ended old.ended.items) c.dequeue.ensures.touches.numbers;
+      stays = both_stay (lifted old (mid, table) c.dequeue.ensures.touches.stays) (record {
         sound = λ sound. record {
           agree = subst (λ (t : Table). Agree (mid, t)) (sym ended) (agree-but mid table asleep c.end_alone-forced.new.table.totals there refl (subst IsTable ended c.end_alone-forced.ensures.sound) sound.agree);
           limit = ap (λ (t : Table). t.limit) ended ∙ sound.limit;

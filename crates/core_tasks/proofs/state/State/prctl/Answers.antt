@@ -5,8 +5,8 @@ use Rattle.core_tasks.specs.State.{room_with}
 use Rattle.core_tasks.proofs.Settings.{makes_call, makes_refusal}
 use Rattle.core_tasks.proofs.state.State.prctl.Goals as goal
 
-pub returns-in-Go : goal.returns-in-Go
-returns-in-Go g c = record {
+pub returns-in-Go-clause-makes : goal.returns-in-Go-clause-makes
+returns-in-Go-clause-makes g c = record {
   step = λ intervals.
       let room = room_with intervals c.args.self.now in
       let is : IsRoomOf room c.args.self.now.tasks c.args.self.now.refs c.args.self.now.guards.guards c.args.online c.args.self.now.user_top =
@@ -14,13 +14,13 @@ returns-in-Go g c = record {
       makes_call intervals c.args.self.now _ c.set_cookies.new.self _ c.args.pid c.args.ask c.in-Go.decision
       (c.in-Go.ensures.answer room is) (c.in-Go.ensures.sets room is)
       (λ i. record room { cookie_limit = c.in-Go.ensures.limit i; next_cookie = c.in-Go.ensures.serial room is i; guards = c.in-Go.ensures.asked room is i }) refl
-      c.set_cookies.ensures
+      c.set_cookies.ensures.sets
       (λ i. record (room_with intervals c.set_cookies.new.self) { cookie_limit = c.put.ensures.limit i; next_cookie = c.put.ensures.next i }) refl
       c.in-Go.ensures.planned;
   stays =
       record {
         sound = λ sound.
-            let set = c.set_cookies.ensures.stays.sound (record {
+            let set = c.set_cookies.ensures.sets.stays.sound (record {
               agree = sound.agree;
               limit = sound.limit;
               user_top = sound.user_top;
@@ -36,13 +36,13 @@ returns-in-Go g c = record {
               ended = set.ended;
               refs = Agree-put c.set_cookies.new.self.refs c.put.new.self c.set_cookies.new.self.tasks.tasks c.in-Go.decision.cookie c.put.ensures.counts set.refs;
             };
-        siblings = c.set_cookies.ensures.stays.siblings;
-        ends = c.set_cookies.ensures.stays.ends;
+        siblings = c.set_cookies.ensures.sets.stays.siblings;
+        ends = c.set_cookies.ensures.sets.stays.ends;
       };
 }
 
-pub returns-in-Answer : goal.returns-in-Answer
-returns-in-Answer g c = record {
+pub returns-in-Answer-clause-makes : goal.returns-in-Answer-clause-makes
+returns-in-Answer-clause-makes g c = record {
   step = λ intervals.
       let room = room_with intervals c.args.self.now in
       let is : IsRoomOf room c.args.self.now.tasks c.args.self.now.refs c.args.self.now.guards.guards c.args.online c.args.self.now.user_top =

@@ -34,15 +34,15 @@ put-requires g c own =
       own_cookie_is_live c.args.self.now.refs c.args.self.now.tasks.tasks c.args.cookie c.args.task.now.spec.pid c.args.task.now c.requires.there c.requires.may.sound.refs own,
     )
 
-pub returns : goal.returns
-returns g c =
+pub returns-clause-sets : goal.returns-clause-sets
+returns-clause-sets g c =
     let old = c.args.self.now in
     let pid = c.args.task.now.spec.pid in
     let tasks = old.tasks.tasks in
     let there = c.requires.there in
     let mid = c.set_cookie.new.self in
-    let same : bare mid ≡ bare old.core = c.set_cookie.ensures.bare in
-    let table = c.set_cookie.ensures.table in
+    let same : bare mid ≡ bare old.core = c.set_cookie.ensures.replaces.bare in
+    let table = c.set_cookie.ensures.replaces.table in
     let raised = c.flag_home.new.lanes in
     let as_many = c.flag_home.auto.lanes ∙ ap length c.deref_mut.ensures.value in
     let after = (with_items mid.lanes raised).items in
@@ -66,7 +66,7 @@ returns g c =
       numbers = (λ i. with_ended old.ended.items (numbers_by (is i) (table i))) ∙ ap (λ n. touched n (state_numbers old)) (touches_alone c.args.task.now c.args.cookie touches c.touches.ensures.touches);
       stays = record {
         sound = λ sound. record {
-          agree = stays.agree c.set_cookie.ensures.agree;
+          agree = stays.agree c.set_cookie.ensures.replaces.agree;
           limit = ap (λ (t : Table). t.limit) table ∙ sound.limit;
           user_top = sound.user_top;
           pids = subst (λ (t : Table). All (λ (task : Task). IsGiven old.next_pid task.spec.pid) t.tasks) (sym table)
@@ -96,7 +96,7 @@ pub get-requires-clause-live : goal.get-requires-clause-live
 get-requires-clause-live g c = held_cookie_is_live c.args.self.now.refs c.args.self.now.tasks.tasks c.args.cookie c.requires.may.sound.refs
 
 pub overflow_add-self : goal.overflow_add-self
-overflow_add-self g c = omega (arith, ap (λ (b : BareCore). b.task_number) c.set_cookie.ensures.bare, c.requires.may.touches, c.touches.ensures.few)
+overflow_add-self g c = omega (arith, ap (λ (b : BareCore). b.task_number) c.set_cookie.ensures.replaces.bare, c.requires.may.touches, c.touches.ensures.few)
 
 pub invariant_of-self : goal.invariant_of-self
 invariant_of-self g c = record { few = c.set_cookie.new.self.few }
@@ -107,12 +107,12 @@ flag_home-requires-clause-home g c =
     omega (
       arith,
       (fits_found (both old) c.args.task.now.spec.pid c.args.task.now c.requires.may.sound.agree c.requires.there).home,
-      as_many_bare old.core c.set_cookie.new.self c.set_cookie.ensures.bare,
+      as_many_bare old.core c.set_cookie.new.self c.set_cookie.ensures.replaces.bare,
       ap length c.deref_mut.ensures.value,
     )
 
 pub flag_home-requires-clause-alone : goal.flag_home-requires-clause-alone
 flag_home-requires-clause-alone g c =
-    let same = ap (map lane_state) c.deref_mut.ensures.value ∙ ap (λ (core : BareCore). core.siblings) c.set_cookie.ensures.bare in
+    let same = ap (map lane_state) c.deref_mut.ensures.value ∙ ap (λ (core : BareCore). core.siblings) c.set_cookie.ensures.replaces.bare in
     subst (RunsAtMostAt c.args.task.now.home c.args.task.now.spec.pid) (sym same)
     (runs_at_home (both c.args.self.now) c.args.task.now c.requires.may.own c.requires.there)

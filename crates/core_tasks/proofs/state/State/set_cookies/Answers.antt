@@ -4,32 +4,32 @@ use Rattle.prctl_core.specs.Plan.{named}
 use Rattle.core_tasks.proofs.Settings.{sets_none, sets_alike, named_threads, named_process}
 use Rattle.core_tasks.proofs.state.State.set_cookies.Goals as goal
 
-pub returns-in-Nobody : goal.returns-in-Nobody
-returns-in-Nobody g c =
+pub returns-in-Nobody-clause-sets : goal.returns-in-Nobody-clause-sets
+returns-in-Nobody-clause-sets g c =
     sets_alike c.args.self.now c.args.self.now [] _ c.args.cookie (ap (λ to. named to c.args.self.now.tasks.tasks) (sym c.in-Nobody.is)) (sets_none c.args.self.now c.args.cookie)
 
-pub returns-in-Some : goal.returns-in-Some
-returns-in-Some g c =
+pub returns-in-Some-clause-sets : goal.returns-in-Some-clause-sets
+returns-in-Some-clause-sets g c =
     let tasks = c.args.self.now.tasks.tasks in
     sets_alike c.args.self.now c.set_cookie.new.self (c.in-Some.task ∷ []) _ c.args.cookie
     (sym (ap (λ to. named to tasks) c.in-One.is ∙ found_alone 0 c.in-One.pid tasks c.in-Some.task c.requires.sound.agree.table.rising (sym c.in-Some.ensures.task)))
-    c.set_cookie.ensures
+    c.set_cookie.ensures.sets
 
-pub returns-in_default : goal.returns-in_default
-returns-in_default g c =
+pub returns-in_default-clause-sets : goal.returns-in_default-clause-sets
+returns-in_default-clause-sets g c =
     let tasks = c.args.self.now.tasks.tasks in
     sets_alike c.args.self.now c.args.self.now [] _ c.args.cookie
     (sym (ap (λ to. named to tasks) c.in-One.is ∙ found_none c.in-One.pid tasks (sym c.in_default.ensures.task)))
     (sets_none c.args.self.now c.args.cookie)
 
-pub returns-in-Threads : goal.returns-in-Threads
-returns-in-Threads g c =
+pub returns-in-Threads-clause-sets : goal.returns-in-Threads-clause-sets
+returns-in-Threads-clause-sets g c =
     let tasks = c.args.self.now.tasks.tasks in
     sets_alike c.args.self.now c.set_group.new.self _ _ c.args.cookie
-    (named_threads _ c.in-Threads.tgid tasks c.requires.sound.pids ∙ ap (λ to. named to tasks) (sym c.in-Threads.is)) c.set_group.ensures
+    (named_threads _ c.in-Threads.tgid tasks c.requires.sound.pids ∙ ap (λ to. named to tasks) (sym c.in-Threads.is)) c.set_group.ensures.sets
 
-pub returns-in-Process : goal.returns-in-Process
-returns-in-Process g c =
+pub returns-in-Process-clause-sets : goal.returns-in-Process-clause-sets
+returns-in-Process-clause-sets g c =
     let tasks = c.args.self.now.tasks.tasks in
     sets_alike c.args.self.now c.set_group-in-Process.new.self _ _ c.args.cookie
-    (named_process _ c.in-Process.pgid tasks c.requires.sound.pids ∙ ap (λ to. named to tasks) (sym c.in-Process.is)) c.set_group-in-Process.ensures
+    (named_process _ c.in-Process.pgid tasks c.requires.sound.pids ∙ ap (λ to. named to tasks) (sym c.in-Process.is)) c.set_group-in-Process.ensures.sets

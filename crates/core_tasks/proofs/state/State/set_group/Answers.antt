@@ -1,4 +1,4 @@
-use Rattle.std.proofs.Common.{◌≡◌, ◌∙◌, ◌≤◌, List, Some, None, [], ◌∷◌, sym, ap, refl, length, arith, ltb}
+use Rattle.std.proofs.Common.{◌≡◌, ◌∙◌, ◌+◌, ◌*◌, ◌≤◌, List, Some, None, [], ◌∷◌, sym, ap, subst, refl, length, arith, ltb}
 use Rattle.std.specs.Prelude.{◌&&◌, filter}
 use Rattle.std.proofs.lemmas.List.Sums.{length-filter, count_by-le-length}
 use Rattle.cs_types.specs.declared.task.Task.{Task}
@@ -13,6 +13,7 @@ use Rattle.task_table.proofs.Tables.{above_kept}
 use Rattle.core_tasks.specs.Cookies.{setting}
 use Rattle.core_tasks.proofs.States.{both_stay, same_stays}
 use Rattle.core_tasks.proofs.Runners.{own_kept}
+use Rattle.core_tasks.proofs.Counted.{as_many_set, one_less, no_more_members}
 use Rattle.core_tasks.proofs.Settings.{member_next, member_none, member_there, group_done, group_room, group_numbers, group_touches}
 use Rattle.core_tasks.proofs.state.State.set_group.Goals as goal
 
@@ -39,10 +40,11 @@ loop-init g c =
       room = λ intervals. ap (λ (left : List Task). set_cookies (room_with intervals c.args.self.now) (setting left c.args.cookie)) members;
       numbers = ap (λ (left : List Task). touched (setting_touches (setting left c.args.cookie)) (state_numbers c.args.self.now)) members;
       left = omega (arith, ap length members, members_above c.args.group tasks, c.most_in-end.ensures.most);
+      compared = omega (arith, ap (λ (left : List Task). length left * g.Q.SiblingQueue.most_compared (length tasks)) members);
     }
 
-pub returns-in_default : goal.returns-in_default
-returns-in_default g c =
+pub returns-in_default-clause-sets : goal.returns-in_default-clause-sets
+returns-in_default-clause-sets g c =
     group_done c.args.self.now c.loop.self c.args.cookie (group_above c.args.group c.loop.after c.loop.self.tasks.tasks) (group_above c.args.group 0 c.args.self.now.tasks.tasks)
     c.loop.invariant.room c.loop.invariant.numbers
     (member_none c.args.group c.loop.after c.loop.self.tasks.tasks c.next_in.ensures.sound.rising None (c.in_default.ensures ∙ c.next_in.ensures.next)) c.loop.invariant.stays
@@ -55,21 +57,25 @@ loop-preserved g c =
     let all = group_above c.args.group 0 c.args.self.now.tasks.tasks in
     let rest = group_above c.args.group task.spec.pid c.set_cookie.new.self.tasks.tasks in
     let kept : rest ≡ group_above c.args.group task.spec.pid tasks =
-    ap (λ (room : RoomState). group_above c.args.group task.spec.pid room.tasks) (c.set_cookie.ensures.room [])
+    ap (λ (room : RoomState). group_above c.args.group task.spec.pid room.tasks) (c.set_cookie.ensures.sets.room [])
     ∙ above_kept c.args.group c.args.cookie task tasks in
     let is : left ≡ task ∷ rest =
     member_next c.args.group c.loop.after tasks c.next_in.ensures.sound.rising (Some task) (c.in-Some.ensures ∙ c.next_in.ensures.next)
     ∙ ap (λ (ts : List Task). task ∷ ts) (sym kept) in
     record {
-      stays = both_stay c.loop.invariant.stays c.set_cookie.ensures.stays;
-      own = own_kept c.loop.self c.set_cookie.new.self (setting (task ∷ []) c.args.cookie) (c.set_cookie.ensures.room []) c.loop.invariant.own;
-      room = group_room c.args.self.now c.loop.self c.args.cookie left all c.loop.invariant.room c.loop.invariant.numbers c.set_cookie.new.self task rest is c.set_cookie.ensures;
-      numbers = group_numbers c.args.self.now c.loop.self c.args.cookie left all c.loop.invariant.room c.loop.invariant.numbers c.set_cookie.new.self task rest is c.set_cookie.ensures;
+      stays = both_stay c.loop.invariant.stays c.set_cookie.ensures.sets.stays;
+      own = own_kept c.loop.self c.set_cookie.new.self (setting (task ∷ []) c.args.cookie) (c.set_cookie.ensures.sets.room []) c.loop.invariant.own;
+      room = group_room c.args.self.now c.loop.self c.args.cookie left all c.loop.invariant.room c.loop.invariant.numbers c.set_cookie.new.self task rest is c.set_cookie.ensures.sets;
+      numbers = group_numbers c.args.self.now c.loop.self c.args.cookie left all c.loop.invariant.room c.loop.invariant.numbers c.set_cookie.new.self task rest is c.set_cookie.ensures.sets;
       left = omega (arith, ap length is, c.loop.invariant.left);
+      compared =
+          let many = as_many_set (room_with [] c.args.self.now) (room_with [] c.loop.self) (setting all c.args.cookie) (setting left c.args.cookie) (c.loop.invariant.room []) in
+          one_less c.args.steps.now c.loop.steps c.set_cookie.new.steps (length left) (length rest) (length all) _ (ap length is) c.loop.invariant.compared
+          (subst (λ n. c.set_cookie.new.steps ≤ c.loop.steps + 1 * g.Q.SiblingQueue.most_compared n) many c.set_cookie.ensures.counted);
     }
 
-pub returns : goal.returns
-returns g c =
+pub returns-clause-sets : goal.returns-clause-sets
+returns-clause-sets g c =
     let left = group_above c.args.group c.loop.after c.loop.self.tasks.tasks in
     group_done c.args.self.now c.loop.self c.args.cookie left (group_above c.args.group 0 c.args.self.now.tasks.tasks)
     c.loop.invariant.room c.loop.invariant.numbers (none_left left (omega (arith, c.loop.invariant.left, c.loop-test.false))) c.loop.invariant.stays
@@ -90,3 +96,13 @@ set_cookie-requires g c = record {
   there =
       member_there c.args.group c.loop.after c.loop.self.tasks.tasks c.next_in.ensures.sound.rising (Some c.in-Some.task) (c.in-Some.ensures ∙ c.next_in.ensures.next);
 }
+
+pub returns-in_default-clause-counted : goal.returns-in_default-clause-counted
+returns-in_default-clause-counted g c =
+    let tasks = c.args.self.now.tasks.tasks in
+    no_more_members _ _ (length (group_above c.args.group c.loop.after c.loop.self.tasks.tasks)) _ _ _ c.loop.invariant.compared (few_members c.args.group tasks)
+
+pub returns-clause-counted : goal.returns-clause-counted
+returns-clause-counted g c =
+    let tasks = c.args.self.now.tasks.tasks in
+    no_more_members _ _ (length (group_above c.args.group c.loop.after c.loop.self.tasks.tasks)) _ _ _ c.loop.invariant.compared (few_members c.args.group tasks)
