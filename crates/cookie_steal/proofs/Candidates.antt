@@ -1,8 +1,9 @@
 -- Candidates: the tasks that a thief looks through, of which no two tie.
-use Rattle.std.proofs.Common.{◌≡◌, ℕ, Bool, true, false, ltb, List, sym, ap, ◌∙◌, Some, arith}
+use Rattle.std.proofs.Common.{◌≡◌, ◌≤◌, ℕ, Bool, true, false, ltb, List, length, sym, ap, ◌∙◌, Some, arith}
 use Rattle.std.specs.Prelude.{◌&&◌, ◌||◌, ◌==◌, not, find, Contains}
 use Rattle.std.proofs.lemmas.Bool.{and_parts, eqb-true}
 use Rattle.std.proofs.lemmas.Bool.Decides.{nat_tests}
+use Rattle.std.proofs.lemmas.List.Sums.{length-filter, count_by-le-length}
 use Rattle.cs_types.specs.declared.task.Task.{Task}
 use Rattle.cs_types.specs.Room.{has_pid}
 use Rattle.cs_types.specs.Order.{goes_before, is_higher_here}
@@ -14,6 +15,14 @@ use Rattle.core_lanes.proofs.Queues.{is_of}
 -- the tasks queued on the source with the cookie
 abbrev pub candidates : ℕ → ℕ → List Task → List Task
 candidates cookie source tasks = with_cookie cookie (queued_among tasks source)
+
+-- they are no more than the tasks
+pub few_candidates : (cookie source : ℕ) (tasks : List Task) → length (candidates cookie source tasks) ≤ length tasks
+few_candidates cookie source tasks =
+    let is_there = λ (task : Task). task.queued && (task.home == source) in
+    let has_it = λ (task : Task). task.cookie == cookie in
+    let queued = queued_among tasks source in
+    omega (arith, length-filter is_there tasks, count_by-le-length is_there tasks, length-filter has_it queued, count_by-le-length has_it queued)
 
 -- a candidate is a task of the list, queued, and with the cookie
 pub candidate_parts : (cookie source : ℕ) (tasks : List Task) (task : Task) → Contains (candidates cookie source tasks) task →

@@ -1,9 +1,10 @@
 -- Enumerated: a list looked through from its foremost on, each time at the foremost of those behind the last, until one passes.
-use Rattle.std.proofs.Common.{◌≡◌, ◌⊎◌, inl, inr, ℕ, suc, ◌<◌, Bool, true, false, List, [], length, refl, sym, ap, ◌∙◌, Option, Some, None, arith}
+use Rattle.std.proofs.Common.{◌≡◌, ◌⊎◌, inl, inr, ℕ, suc, ◌<◌, ◌≤◌, Bool, true, false, List, [], length, refl, sym, ap, ◌∙◌, Option, Some, None, arith}
 use Rattle.std.specs.Prelude.{filter, not, Contains}
 use Rattle.std.specs.Cmp.{IsStrictWeakOrder}
 use Rattle.std.specs.List.{list_all}
 use Rattle.std.proofs.lemmas.Bool.{cases_Bool, both_ways}
+use Rattle.std.proofs.lemmas.List.Filters.{length-filter_both}
 use Rattle.std.proofs.lemmas.List.Elements.{All-contains, All-contains_itself, All-from_recursion, recursion_from_All}
 use Rattle.cs_types.specs.Order.{foremost}
 use Rattle.core_lanes.proofs.Lists.{fewer}
@@ -97,6 +98,16 @@ module _ {X : Type 0} (lt : X → X → Bool) (order : IsStrictWeakOrder lt) (xs
             | inr same ↦ absurd (isnt x same pass)
           ],
         )
+
+  -- at the foremost no more than all are still to be looked at
+  pub to_go_first : to_go lt xs (foremost lt xs) ≤ length xs
+  to_go_first = go (foremost lt xs) refl where
+    go : (o : Option X) → foremost lt xs ≡ o → to_go lt xs o ≤ length xs
+    go None h = omega arith
+    go (Some t) h =
+        let itself = Contains-filter (λ other. not (lt t other)) xs t (foremost_parts lt xs t h).0 (ap not (not_before_itself lt order t)) in
+        let below : itself.0 < length (filter (λ other. not (lt t other)) xs) = itself.1 in
+        omega (arith, below, length-filter_both (λ other. lt t other) (λ other. not (lt t other)) (λ other. refl) xs)
 
   -- each turn looks at one more
   pub to_go_falls : (t : X) → to_go lt xs (foremost lt (after lt xs t)) < to_go lt xs (Some t)

@@ -1,3 +1,4 @@
 mod Enumerated
 mod Candidates
 mod Steals
+mod Counted

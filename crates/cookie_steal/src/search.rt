@@ -1,11 +1,12 @@
 //! What a thief finds on its source. It is apart, since it asks the source's queue and changes nothing.
 
-ghost use Rattle.std.specs.Prelude.{◌≡◌, ◌≢◌, filter};
+ghost use Rattle.std.specs.Prelude.{◌≡◌, ◌≢◌, ℕ, ◌+◌, ◌*◌, ◌≤◌, length, filter};
 ghost use Rattle.cs_types.specs.Room.{sibling_of};
 ghost use Rattle.cs_types.specs.Order.{first_of};
 ghost use Rattle.cs_types.specs.Selection.{queued_with};
 ghost use Rattle.cs_types.specs.Steal.{may_steal, stolen};
 ghost use Rattle.core_lanes.specs.Lanes.{Beside, lane_state, room_of};
+ghost use Rattle.core_lanes.specs.Comparisons.{ComparesFor};
 ghost use Rattle.cookie_steal.specs.Tries.{IsSourceOf};
 
 use core_lanes::{Core, Lane, SiblingQueue};
@@ -34,8 +35,9 @@ fn first_to_steal<Q: SiblingQueue, L: Ledger>(
 ) -> Option<Task>
     requires cookie { core.now.cookie ≢ 0 }
     requires source { IsSourceOf thief source (core.now, table.now) }
-    ensures { (beside : Beside) → let room = room_of beside (core.now, table.now) in
+    ensures first { (beside : Beside) → let room = room_of beside (core.now, table.now) in
         result ≡ first_of (filter (may_steal (sibling_of room thief) (sibling_of room source)) (queued_with room room.core_cookie source)) }
+    ensures counted { ComparesFor (length table.now.tasks + 1) (core.now, table.now) steps.old steps.new }
 {
     let idle = &core.lanes[thief as usize];
     let from = &core.lanes[source as usize];
@@ -61,6 +63,7 @@ pub fn stolen<Q: SiblingQueue, L: Ledger>(
 ) -> Option<Task>
     requires { IsSourceOf thief source (core.now, table.now) }
     ensures stolen { (beside : Beside) → result ≡ stolen (room_of beside (core.now, table.now)) thief }
+    ensures counted { ComparesFor (length table.now.tasks + 1) (core.now, table.now) steps.old steps.new }
 {
     if core.cookie == 0 || core.lanes[thief as usize].run.is_some() {
         return None;

@@ -1,12 +1,13 @@
 //! A try, and how what it finds moves.
 
-ghost use Rattle.std.specs.Prelude.{◌≡◌, ◌+◌, ◌^◌, ◌<◌, ◌&&◌, ◌==◌, length, not, is_none, All};
+ghost use Rattle.std.specs.Prelude.{◌≡◌, ℕ, ◌+◌, ◌*◌, ◌^◌, ◌<◌, ◌≤◌, ◌&&◌, ◌==◌, length, not, is_none, All};
 ghost use Rattle.cs_types.specs.Room.{sibling_of};
 ghost use Rattle.cs_types.specs.Selection.{first_on};
 ghost use Rattle.cs_types.specs.Steal.{source_of, steal, next_place};
 ghost use Rattle.task_table.specs.Table.{Table};
 ghost use Rattle.core_lanes.specs.Lanes.{Beside, room_of, AgreesAt};
 ghost use Rattle.core_lanes.specs.Changes.{Touches};
+ghost use Rattle.core_lanes.specs.Comparisons.{ComparesFor};
 ghost use Rattle.cookie_steal.specs.Tries.{MayTry, MaySteal, TriesToSteal};
 
 use crate::search::stolen;
@@ -46,8 +47,9 @@ fn is_left_idle<Q: SiblingQueue, L: Ledger>(
     steps: &mut Steps<L>,
 ) -> bool
     requires { AgreesAt cpu (core.now, table.now) }
-    ensures { (beside : Beside) → let room = room_of beside (core.now, table.now) in
+    ensures idle { (beside : Beside) → let room = room_of beside (core.now, table.now) in
         result ≡ (is_none (first_on room cpu) && is_none (sibling_of room cpu).run && not (room.forced == 0)) }
+    ensures counted { ComparesFor 1 (core.now, table.now) steps.old steps.new }
 {
     core.first_on(table, cpu, steps).is_none()
         && core.lanes[cpu as usize].run.is_none()
@@ -64,7 +66,8 @@ fn steal<Q: SiblingQueue, L: Ledger>(
     steps: &mut Steps<L>,
 )
     requires { MaySteal thief source (core.old, table.old) task }
-    ensures { Touches 2 (core.old, table.old) (core.new, table.new) (λ room. steal room thief task) }
+    ensures touches { Touches 2 (core.old, table.old) (core.new, table.new) (λ room. steal room thief task) }
+    ensures counted { ComparesFor 3 (core.old, table.old) steps.old steps.new }
 {
     let moved = core.moved_to(thief, task);
     core.touch();
@@ -98,7 +101,8 @@ pub fn try_steal<Q: SiblingQueue, L: Ledger>(
     steps: &mut Steps<L>,
 ) -> Try
     requires { MayTry cpu (core.old, table.old) }
-    ensures { TriesToSteal (core.old, table.old) (core.new, table.new) cpu result }
+    ensures tries { TriesToSteal (core.old, table.old) (core.new, table.new) cpu result }
+    ensures counted { ComparesFor (length table.old.tasks + 4) (core.old, table.old) steps.old steps.new }
 {
     if core.lanes[cpu as usize].place == 0 {
         return Try::NoBalance;

@@ -1,4 +1,4 @@
-use Rattle.std.proofs.Common.{ap, ◌∙◌, sym, ◌≡◌, Bool, true, false, refl}
+use Rattle.std.proofs.Common.{arith, ap, ◌∙◌, sym, ◌≡◌, Bool, true, false, refl}
 use Rattle.std.specs.Prelude.{not, ◌&&◌, ◌==◌, Option, None, Some, is_none}
 use Rattle.std.specs.Option.{option_map}
 use Rattle.cs_types.specs.declared.task.Task.{Task}
@@ -7,6 +7,7 @@ use Rattle.cs_types.specs.Room.{SiblingState, sibling_of}
 use Rattle.cs_types.specs.Selection.{first_on}
 use Rattle.core_lanes.specs.Lanes.{room_of}
 use Rattle.core_lanes.proofs.Stays.{lane_at}
+use Rattle.core_lanes.proofs.Counted.{of_one}
 use Rattle.cookie_steal.proofs.steal.is_left_idle.Goals as goal
 use Rattle.cookie_steal.proofs.steal.is_left_idle.Goals.{then-is_none, else-is_none}
 
@@ -19,8 +20,8 @@ twice : (b : Bool) → not (not b) ≡ b
 twice true = refl
 twice false = refl
 
-pub returns-then-is_none-2 : goal.returns-then-is_none-2
-returns-then-is_none-2 g c beside =
+pub returns-then-is_none-2-clause-idle : goal.returns-then-is_none-2-clause-idle
+returns-then-is_none-2-clause-idle g c beside =
     let room = room_of beside (c.args.core.now, c.args.table.now) in
     let empty : is_none (first_on room c.args.cpu) ≡ c.is_none.result =
     sym (none_queued (first_on room c.args.cpu)) ∙ ap is_none (sym (c.first_on.ensures.first beside)) ∙ ap not c.is_none.ensures ∙ twice c.is_none.result in
@@ -34,8 +35,8 @@ returns-then-is_none-2 g c beside =
       | else-is_none w ↦ let bad = sym (w.value-is ∙ w.if-is_none.false) ∙ c.if-is_none-2.true in absurd cc
     ]
 
-pub returns-else-is_none-2 : goal.returns-else-is_none-2
-returns-else-is_none-2 g c beside =
+pub returns-else-is_none-2-clause-idle : goal.returns-else-is_none-2-clause-idle
+returns-else-is_none-2-clause-idle g c beside =
     let room = room_of beside (c.args.core.now, c.args.table.now) in
     let empty : is_none (first_on room c.args.cpu) ≡ c.is_none.result =
     sym (none_queued (first_on room c.args.cpu)) ∙ ap is_none (sym (c.first_on.ensures.first beside)) ∙ ap not c.is_none.ensures ∙ twice c.is_none.result in
@@ -50,3 +51,11 @@ returns-else-is_none-2 g c beside =
           let some = empty ∙ w.if-is_none.false in
           c.if-is_none-2.false ∙ sym (λ i. some i && is_none (sibling_of room c.args.cpu).run && not (room.forced == 0))
     ]
+
+pub returns-then-is_none-2-clause-counted : goal.returns-then-is_none-2-clause-counted
+returns-then-is_none-2-clause-counted g c =
+    omega (arith, c.first_on.ensures.counted, of_one g.Q.SiblingQueue.most_compared g.met.Q.SiblingQueue.rises c.args.table.now.tasks c.args.cpu)
+
+pub returns-else-is_none-2-clause-counted : goal.returns-else-is_none-2-clause-counted
+returns-else-is_none-2-clause-counted g c =
+    omega (arith, c.first_on.ensures.counted, of_one g.Q.SiblingQueue.most_compared g.met.Q.SiblingQueue.rises c.args.table.now.tasks c.args.cpu)

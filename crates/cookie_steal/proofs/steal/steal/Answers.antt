@@ -1,4 +1,4 @@
-use Rattle.std.proofs.Common.{ℕ, ◌≡◌, ◌<◌, ◌^◌, true, ap, ◌∙◌, refl, subst, sym, arith}
+use Rattle.std.proofs.Common.{ℕ, ◌≡◌, ◌+◌, ◌*◌, ◌<◌, ◌≤◌, ◌^◌, true, ap, ◌∙◌, refl, subst, sym, arith}
 use Rattle.std.specs.Prelude.{length}
 use Rattle.cs_types.specs.declared.task.Task.{Task}
 use Rattle.cs_types.specs.Room.{RoomState, flag}
@@ -8,6 +8,7 @@ use Rattle.core_lanes.specs.Lanes.{room_of, IsFit, KnowsApart}
 use Rattle.core_lanes.specs.Numbers.{Numbers, numbers_of, touched}
 use Rattle.core_lanes.specs.Changes.{Kept}
 use Rattle.core_lanes.proofs.Stays.{some_beside, both_stay, found_in}
+use Rattle.core_lanes.proofs.Counted.{as_many_live}
 use Rattle.cookie_steal.proofs.Steals.{is_left}
 use Rattle.cookie_steal.proofs.steal.steal.Goals as goal
 
@@ -43,28 +44,28 @@ enqueue-requires g c = record {
 
 pub set_place-requires : goal.set_place-requires
 set_place-requires g c =
-    let stays = both_stay (c.touch.ensures c.args.table.now).stays c.enqueue.ensures.stays in
+    let stays = both_stay (c.touch.ensures c.args.table.now).stays c.enqueue.ensures.touches.stays in
     omega (arith, c.requires.may.at.cpu, ap (λ (kept : Kept). kept.siblings) stays.kept)
 
 pub flag-requires : goal.flag-requires
 flag-requires g c =
-    let stays = both_stay (c.touch.ensures c.args.table.now).stays (both_stay c.enqueue.ensures.stays (c.set_place.ensures c.enqueue.new.table).stays) in
+    let stays = both_stay (c.touch.ensures c.args.table.now).stays (both_stay c.enqueue.ensures.touches.stays (c.set_place.ensures c.enqueue.new.table).stays) in
     omega (arith, c.requires.may.at.cpu, ap (λ (kept : Kept). kept.siblings) stays.kept)
 
 pub is_left_idle-idles-requires : goal.is_left_idle-idles-requires
 is_left_idle-idles-requires g c =
     let table = c.enqueue.new.table in
-    let stays = both_stay (c.touch.ensures c.args.table.now).stays (both_stay c.enqueue.ensures.stays (both_stay (c.set_place.ensures table).stays (c.flag.ensures table).stays)) in
+    let stays = both_stay (c.touch.ensures c.args.table.now).stays (both_stay c.enqueue.ensures.touches.stays (both_stay (c.set_place.ensures table).stays (c.flag.ensures table).stays)) in
     record { cpu = omega (arith, c.requires.source.within, ap (λ (kept : Kept). kept.siblings) stays.kept); agree = stays.agree c.requires.may.at.agree }
 
 pub flag-requires-2 : goal.flag-requires-2
 flag-requires-2 g c =
     let table = c.enqueue.new.table in
-    let stays = both_stay (c.touch.ensures c.args.table.now).stays (both_stay c.enqueue.ensures.stays (both_stay (c.set_place.ensures table).stays (c.flag.ensures table).stays)) in
+    let stays = both_stay (c.touch.ensures c.args.table.now).stays (both_stay c.enqueue.ensures.touches.stays (both_stay (c.set_place.ensures table).stays (c.flag.ensures table).stays)) in
     omega (arith, c.requires.source.within, ap (λ (kept : Kept). kept.siblings) stays.kept)
 
-pub returns : goal.returns
-returns g c =
+pub returns-clause-touches : goal.returns-clause-touches
+returns-clause-touches g c =
     let table = c.args.table.now in
     let touch = c.touch.ensures table in
     let place = c.set_place.ensures c.enqueue.new.table in
@@ -79,15 +80,21 @@ returns g c =
           let mid : room_of beside (c.flag.new.self, c.enqueue.new.table) ≡ after =
           raised.room beside
           ∙ ap (λ (now : RoomState). flag now thief true) (place.room beside)
-          ∙ ap at (c.enqueue.ensures.room beside)
+          ∙ ap at (c.enqueue.ensures.touches.room beside)
           ∙ ap (λ (now : RoomState). at (enqueue now c.moved_to-moved.result)) (touch.room beside)
           ∙ ap (λ (task : Task). at (enqueue room task)) (c.moved_to-moved.ensures beside table) in
           last.room beside
-          ∙ ap (flag (room_of beside (c.flag.new.self, c.enqueue.new.table)) c.args.source) (c.is_left_idle-idles.ensures beside)
+          ∙ ap (flag (room_of beside (c.flag.new.self, c.enqueue.new.table)) c.args.source) (c.is_left_idle-idles.ensures.idle beside)
           ∙ ap (λ (now : RoomState). flag now c.args.source (is_left now c.args.source)) mid
           ∙ ap (λ (source : ℕ). flag after source (is_left after source)) (c.requires.source.is beside);
       numbers =
-          last.numbers ∙ raised.numbers ∙ place.numbers ∙ c.enqueue.ensures.numbers ∙ ap (touched 1) touch.numbers
+          last.numbers ∙ raised.numbers ∙ place.numbers ∙ c.enqueue.ensures.touches.numbers ∙ ap (touched 1) touch.numbers
           ∙ ap (λ (n : ℕ). let numbers : Numbers = record (numbers_of (c.args.core.now, c.args.table.now)) { task = n } in numbers) (omega arith);
-      stays = both_stay touch.stays (both_stay c.enqueue.ensures.stays (both_stay place.stays (both_stay raised.stays last.stays)));
+      stays = both_stay touch.stays (both_stay c.enqueue.ensures.touches.stays (both_stay place.stays (both_stay raised.stays last.stays)));
     }
+
+pub returns-clause-counted : goal.returns-clause-counted
+returns-clause-counted g c =
+    let many = as_many_live (c.touch.new.self, c.args.table.now) (c.enqueue.new.self, c.enqueue.new.table) c.enqueue.ensures.touches.stays.kept in
+    let idles = subst (λ n. c.is_left_idle-idles.new.steps ≤ c.enqueue.new.steps + 1 * g.Q.SiblingQueue.most_compared n) many c.is_left_idle-idles.ensures.counted in
+    omega (arith, c.enqueue.ensures.counted, idles)

@@ -1,5 +1,5 @@
 use Rattle.std.proofs.Common.{ℕ, ap, ◌∙◌, sym, ◌≡◌, false, add-zero}
-use Rattle.std.specs.Prelude.{Option, ◌==◌}
+use Rattle.std.specs.Prelude.{Option, length, ◌==◌}
 use Rattle.std.proofs.lemmas.Bool.{ne_eqb, cond-false}
 use Rattle.cs_types.specs.declared.task.Task.{Task}
 use Rattle.cs_types.specs.declared.reply.Reply.TheVariants.{Stole, Missed, Nothing}
@@ -11,6 +11,7 @@ use Rattle.core_lanes.specs.Numbers.{Numbers, numbers_of}
 use Rattle.core_lanes.proofs.Stays.{some_beside, lane_at}
 use Rattle.cookie_steal.specs.Tries.{tried}
 use Rattle.cookie_steal.proofs.Steals.{stolen_there}
+use Rattle.cookie_steal.proofs.Counted.{search_and_steal, search_alone}
 use Rattle.cookie_steal.proofs.steal.try_steal.Goals as goal
 
 -- where the balance place is not 0, the sibling tries
@@ -41,8 +42,8 @@ steal-requires g c = record {
 pub next_place-place-requires-clause-places : goal.next_place-place-requires-clause-places
 next_place-place-requires-clause-places g c = c.requires.places
 
-pub returns-in-Some : goal.returns-in-Some
-returns-in-Some g c =
+pub returns-in-Some-clause-tries : goal.returns-in-Some-clause-tries
+returns-in-Some-clause-tries g c =
     let at = lane_at c.args.core.now.lanes.items c.args.cpu c.index.result.now c.requires.at.cpu c.index.ensures in
     record {
       reply = λ beside.
@@ -52,15 +53,15 @@ returns-in-Some g c =
           ∙ ap (λ (made : Stepped). made.reply) (it_tries room c.args.cpu _ at c.if-index-eq0.false);
       room = λ beside.
           let room = room_of beside (c.args.core.now, c.args.table.now) in
-          c.steal.ensures.room beside ∙ ap (λ (found : Option Task). (try_steal room c.args.cpu found).room) (c.in-Some.ensures.stolen beside)
+          c.steal.ensures.touches.room beside ∙ ap (λ (found : Option Task). (try_steal room c.args.cpu found).room) (c.in-Some.ensures.stolen beside)
           ∙ ap (λ (made : Stepped). made.room) (it_tries room c.args.cpu _ at c.if-index-eq0.false);
-      numbers = c.steal.ensures.numbers;
+      numbers = c.steal.ensures.touches.numbers;
       unchanged = λ none. absurd cc;
-      stays = c.steal.ensures.stays;
+      stays = c.steal.ensures.touches.stays;
     }
 
-pub returns-in-None : goal.returns-in-None
-returns-in-None g c =
+pub returns-in-None-clause-tries : goal.returns-in-None-clause-tries
+returns-in-None-clause-tries g c =
     let at = lane_at c.args.core.now.lanes.items c.args.cpu c.index.result.now c.requires.at.cpu c.index.ensures in
     let place = c.set_place.ensures c.args.table.now in
     record {
@@ -80,3 +81,9 @@ returns-in-None g c =
       unchanged = λ none. absurd cc;
       stays = place.stays;
     }
+
+pub returns-in-Some-clause-counted : goal.returns-in-Some-clause-counted
+returns-in-Some-clause-counted g c = search_and_steal _ _ _ (length c.args.table.now.tasks) _ c.in-Some.ensures.counted c.steal.ensures.counted
+
+pub returns-in-None-clause-counted : goal.returns-in-None-clause-counted
+returns-in-None-clause-counted g c = search_alone _ _ (length c.args.table.now.tasks) _ c.in-None.ensures.counted
