@@ -1,4 +1,5 @@
 pub mod Onlines
+pub mod Compared
 pub mod Sleeps
 pub mod Lows
 pub mod Readies

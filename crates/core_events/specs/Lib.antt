@@ -1,3 +1,4 @@
 pub mod Ready
+pub mod Comparisons
 pub mod Machine
 pub mod Inside

@@ -10,7 +10,9 @@ ghost use Rattle.cookie_steal.specs.Tries.{reply_of as steal_reply};
 ghost use Rattle.cpu_hotplug.specs.Hotplugs.{reply_of as hotplug_reply};
 ghost use Rattle.core_pick.specs.Comparisons.{ComparesForSchedule};
 ghost use Rattle.core_tasks.specs.Steps.{Makes};
+ghost use Rattle.core_lanes.specs.Comparisons.{ComparesFor};
 ghost use Rattle.core_events.specs.Ready.{IsReady, IsReadyAt, IsReadyFor};
+ghost use Rattle.core_events.specs.Comparisons.{ComparesForEvent};
 
 use cookie_steal::{Try, try_steal};
 use core_clock::{online_home, queue_at_home, rehome};
@@ -84,7 +86,8 @@ fn requeue<Q: SiblingQueue, L: Ledger>(
     steps: &mut Steps<L>,
 )
     requires { MayQueue now 2 (core.old, table.old) task }
-    ensures { TouchesAt now 2 (core.old, table.old) (core.new, table.new) (λ room. requeue room task) }
+    ensures touches { TouchesAt now 2 (core.old, table.old) (core.new, table.new) (λ room. requeue room task) }
+    ensures counted { ComparesFor 4 (core.old, table.old) steps.old steps.new }
 {
     let runs = core.lanes[task.home as usize].runs(task.spec.pid);
     core.dequeue(table, task, steps);
@@ -100,9 +103,8 @@ fn resched<Q: SiblingQueue, G: Guard, L: Ledger>(
 ) -> Reply
     requires { IsReadyAt cpu state.old }
     ensures makes { Makes state.old state.new (Event.Resched cpu) result }
-
-    // The queues compare for it what they do for a schedule.
-    ensures counted { ComparesForSchedule (state.old.core, state.old.tasks) steps.old steps.new }
+    ensures scheduled { ComparesForSchedule (state.old.core, state.old.tasks) steps.old steps.new }
+    ensures counted { ComparesForEvent state.old (Event.Resched cpu) steps.old steps.new }
 {
     match schedule(&mut state.core, &mut state.tasks, cpu, state.clock, steps) {
         Some(pick) => Reply::Picked(pick),
@@ -118,9 +120,8 @@ fn turn<Q: SiblingQueue, G: Guard, L: Ledger>(
 ) -> Reply
     requires { IsReadyAt cpu state.old }
     ensures makes { Makes state.old state.new (Event.Turn cpu) result }
-
-    // Where it schedules, the queues compare what they do for a schedule.
-    ensures counted { (pick : Pick) → result ≡ Reply.Picked pick → ComparesForSchedule (state.old.core, state.old.tasks) steps.old steps.new }
+    ensures scheduled { (pick : Pick) → result ≡ Reply.Picked pick → ComparesForSchedule (state.old.core, state.old.tasks) steps.old steps.new }
+    ensures counted { ComparesForEvent state.old (Event.Turn cpu) steps.old steps.new }
 {
     if !state.core.is_online(cpu) {
         return Reply::Offline;
@@ -140,7 +141,8 @@ fn block<Q: SiblingQueue, G: Guard, L: Ledger>(
     steps: &mut Steps<L>,
 ) -> Reply
     requires { IsReadyAt cpu state.old }
-    ensures { Makes state.old state.new (Event.Block cpu) result }
+    ensures makes { Makes state.old state.new (Event.Block cpu) result }
+    ensures counted { ComparesForEvent state.old (Event.Block cpu) steps.old steps.new }
 {
     if !state.core.is_online(cpu) {
         return Reply::Offline;
@@ -165,7 +167,8 @@ fn exit<Q: SiblingQueue, G: Guard, L: Ledger>(
     steps: &mut Steps<L>,
 ) -> Reply
     requires { IsReadyAt cpu state.old }
-    ensures { Makes state.old state.new (Event.Exit cpu) result }
+    ensures makes { Makes state.old state.new (Event.Exit cpu) result }
+    ensures counted { ComparesForEvent state.old (Event.Exit cpu) steps.old steps.new }
 {
     if !state.core.is_online(cpu) {
         return Reply::Offline;
@@ -192,7 +195,8 @@ fn tick<Q: SiblingQueue, G: Guard, L: Ledger>(
     steps: &mut Steps<L>,
 ) -> Reply
     requires { IsReadyAt cpu state.old }
-    ensures { Makes state.old state.new (Event.Tick cpu) result }
+    ensures makes { Makes state.old state.new (Event.Tick cpu) result }
+    ensures counted { ComparesForEvent state.old (Event.Tick cpu) steps.old steps.new }
 {
     if !state.core.is_online(cpu) {
         return Reply::Offline;
@@ -207,7 +211,8 @@ fn wake<Q: SiblingQueue, G: Guard, L: Ledger>(
     steps: &mut Steps<L>,
 ) -> Reply
     requires ready { IsReady state.old }
-    ensures { Makes state.old state.new (Event.Wake pid) result }
+    ensures makes { Makes state.old state.new (Event.Wake pid) result }
+    ensures counted { ComparesForEvent state.old (Event.Wake pid) steps.old steps.new }
 {
     let Some(mut task) = task_of(&state.tasks, pid) else {
         return Reply::NoTask;
@@ -227,7 +232,8 @@ fn advance<Q: SiblingQueue, G: Guard, L: Ledger>(
     steps: &mut Steps<L>,
 ) -> Reply
     requires { IsReadyFor (Event.Advance delta) state.old }
-    ensures { Makes state.old state.new (Event.Advance delta) result }
+    ensures makes { Makes state.old state.new (Event.Advance delta) result }
+    ensures counted { ComparesForEvent state.old (Event.Advance delta) steps.old steps.new }
 {
     state.clock = core_clock::advance(&mut state.core, &mut state.tasks, delta, state.clock, steps);
     Reply::Now(state.clock)
@@ -241,7 +247,8 @@ fn fork<Q: SiblingQueue, G: Guard, L: Ledger>(
     steps: &mut Steps<L>,
 ) -> Reply
     requires ready { IsReady state.old }
-    ensures { Makes state.old state.new (Event.Fork caller thread) result }
+    ensures makes { Makes state.old state.new (Event.Fork caller thread) result }
+    ensures counted { ComparesForEvent state.old (Event.Fork caller thread) steps.old steps.new }
 {
     match state.make_child(caller, thread) {
         Ok(child) => {
@@ -262,7 +269,8 @@ fn set_policy<Q: SiblingQueue, G: Guard, L: Ledger>(
     steps: &mut Steps<L>,
 ) -> Reply
     requires { IsReadyFor (Event.SetSched pid policy) state.old }
-    ensures { Makes state.old state.new (Event.SetSched pid policy) result }
+    ensures makes { Makes state.old state.new (Event.SetSched pid policy) result }
+    ensures counted { ComparesForEvent state.old (Event.SetSched pid policy) steps.old steps.new }
 {
     let Some(task) = task_of(&state.tasks, pid) else {
         return Reply::NoTask;
@@ -289,7 +297,8 @@ fn take_offline<Q: SiblingQueue, G: Guard, L: Ledger>(
     steps: &mut Steps<L>,
 ) -> Reply
     requires { IsReadyAt cpu state.old }
-    ensures { Makes state.old state.new (Event.Offline cpu) result }
+    ensures makes { Makes state.old state.new (Event.Offline cpu) result }
+    ensures counted { ComparesForEvent state.old (Event.Offline cpu) steps.old steps.new }
 {
     hotplug_reply(offline(&mut state.core, &mut state.tasks, cpu, state.clock, steps))
 }
@@ -310,13 +319,15 @@ fn prctl<Q: SiblingQueue, G: Guard, L: Ledger>(
     steps: &mut Steps<L>,
 ) -> Reply
     requires ready { IsReady state.old }
-    ensures { Makes state.old state.new (Event.Prctl pid ask) result }
+    ensures makes { Makes state.old state.new (Event.Prctl pid ask) result }
+    ensures counted { ComparesForEvent state.old (Event.Prctl pid ask) steps.old steps.new }
 {
     let online = online_count(&state.core);
     state.prctl(online, pid, ask, steps)
 }
 
-/// Makes the step of an event, and answers what the rules answer.
+/// Makes the step of an event, and answers what the rules answer. It compares no more keys than the event's calls of a queue
+/// may.
 #[inline(always)]
 pub fn apply<Q: SiblingQueue, G: Guard, L: Ledger>(
     state: &mut State<Q, G>,
@@ -324,7 +335,8 @@ pub fn apply<Q: SiblingQueue, G: Guard, L: Ledger>(
     steps: &mut Steps<L>,
 ) -> Reply
     requires { IsReadyFor event state.old }
-    ensures { Makes state.old state.new event result }
+    ensures makes { Makes state.old state.new event result }
+    ensures counted { ComparesForEvent state.old event steps.old steps.new }
 {
     match event {
         Event::Turn(cpu) => turn(state, cpu, steps),

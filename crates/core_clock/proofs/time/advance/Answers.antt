@@ -9,7 +9,7 @@ use Rattle.core_lanes.specs.Changes.{Kept}
 use Rattle.core_lanes.specs.Comparisons.{ComparesFor}
 use Rattle.core_lanes.proofs.Stays.{some_beside, both_stay}
 use Rattle.core_clock.specs.Time.{with_ages}
-use Rattle.core_clock.proofs.Counted.{both_compare}
+use Rattle.core_lanes.proofs.Counted.{no_more_live, later, and_then}
 use Rattle.core_clock.proofs.time.advance.Goals as goal
 
 pub grow_tasks-requires : goal.grow_tasks-requires
@@ -48,5 +48,5 @@ returns-clause-counted g c =
     let end = c.renew_siblings.new.steps in
     let stays = c.grow_tasks.ensures.changes.stays in
     let renews = subst (λ n. ComparesFor n (grown.core, grown.table) grown.steps end) (ap (λ (kept : Kept). kept.siblings) stays.kept) c.renew_siblings.ensures.counted in
-    both_compare (c.args.core.now, c.args.table.now) (grown.core, grown.table) (2 * siblings) siblings (3 * siblings) c.args.steps.now grown.steps end stays (omega arith)
-    c.grow_tasks.ensures.counted renews
+    and_then (2 * siblings) siblings (3 * siblings) (c.args.core.now, c.args.table.now) _ _ _ (omega arith) c.grow_tasks.ensures.counted
+    (later g.met.Q.SiblingQueue.rises siblings (grown.core, grown.table) (c.args.core.now, c.args.table.now) _ _ (no_more_live stays) renews)

@@ -12,7 +12,7 @@ use Rattle.core_lanes.specs.Comparisons.{ComparesFor}
 use Rattle.task_table.specs.Table.{Table}
 use Rattle.core_lanes.proofs.Stays.{some_beside, same_stays}
 use Rattle.core_clock.proofs.Changes.{both_change, changes_as, still_below}
-use Rattle.core_clock.proofs.Counted.{both_compare}
+use Rattle.core_lanes.proofs.Counted.{no_more_live, later, and_then}
 use Rattle.core_clock.proofs.Growth.{is_run_by, with_growth_on, grown_alone, runs_alone, grown_with_first, grown_with_none, grown_with_more, grown_with_all, all_grown}
 use Rattle.core_clock.proofs.time.grow_tasks.Goals as goal
 
@@ -76,7 +76,7 @@ loop-cpu-preserved g c =
           let room = room_of beside mid in
           grown_alone room cpu c.args.delta (changes.stays.agree c.requires.agree).table.rising
           (λ task runs. alone old mid c.args.delta cpu task beside below c.requires.own changes runs)) c.grow_on.ensures.changes);
-      counted = both_compare old mid (2 * cpu) 2 (2 * (cpu + 1)) c.args.steps.now c.loop-cpu.steps c.grow_on.new.steps changes.stays (omega arith) c.loop-cpu.invariant.counted c.grow_on.ensures.counted;
+      counted = and_then (2 * cpu) 2 (2 * (cpu + 1)) old _ _ _ (omega arith) c.loop-cpu.invariant.counted (later g.met.Q.SiblingQueue.rises 2 mid old _ _ (no_more_live changes.stays) c.grow_on.ensures.counted);
     }
 
 pub returns-clause-changes : goal.returns-clause-changes

@@ -10,8 +10,7 @@ use Rattle.core_lanes.specs.Changes.{Kept, Changes}
 use Rattle.core_lanes.specs.Comparisons.{ComparesFor}
 use Rattle.task_table.specs.Table.{Table}
 use Rattle.core_lanes.proofs.Stays.{some_beside, policies_of, lane_at, numbers_kept, queues_kept, alike_stays}
-use Rattle.core_lanes.proofs.Counted.{of_one}
-use Rattle.core_clock.proofs.Counted.{both_compare}
+use Rattle.core_lanes.proofs.Counted.{of_one, and_then}
 use Rattle.core_clock.proofs.Clocks.{renewed_is, renewed_first, renewed_next, renewed_more, renewed_all, with_renewed}
 use Rattle.core_clock.proofs.Changes.{held_at, both_change, changes_as}
 use Rattle.core_clock.proofs.time.renew_siblings.Goals.{in-Some, in_default}
@@ -69,8 +68,9 @@ loop-cpu-preserved g c =
     let below : cpu < length c.args.core.now.lanes.items = omega (arith, c.loop-cpu-test.true, c.len-cpu-end.ensures, c.args.core.now.lanes.ok.0) in
     let inside : cpu < length lanes = omega (arith, below, ap (λ (kept : Kept). kept.siblings) c.loop-cpu.invariant.changes.stays.kept) in
     let here = lane_at lanes cpu lane inside is in
-    let counted = both_compare old mid cpu 1 (cpu + 1) c.args.steps.now c.loop-cpu.steps c.smallest_vtime.new.steps c.loop-cpu.invariant.changes.stays refl c.loop-cpu.invariant.counted
-    (omega (arith, c.smallest_vtime.ensures.counted, of_one g.Q.SiblingQueue.most_compared g.met.Q.SiblingQueue.rises c.args.table.now.tasks cpu)) in
+    let once : ComparesFor 1 old c.loop-cpu.steps c.smallest_vtime.new.steps =
+    omega (arith, c.smallest_vtime.ensures.counted, of_one g.Q.SiblingQueue.most_compared g.met.Q.SiblingQueue.rises c.args.table.now.tasks cpu) in
+    let counted = and_then cpu 1 (cpu + 1) old _ _ _ refl c.loop-cpu.invariant.counted once in
     elim c.match-smallest_vtime.branch [
       | in-Some w ↦
           let after = record lane { ran = lane.ran + c.args.delta; least = w.max-lane.result } in

@@ -1,5 +1,6 @@
-use Rattle.std.proofs.Common.{◌∙◌, ◌*◌, ◌≤◌, [], ap, map, refl}
+use Rattle.std.proofs.Common.{◌∙◌, ◌*◌, ◌≤◌, [], ap, map, refl, length, arith}
 use Rattle.std.proofs.lemmas.List.Elements.{All-weaker}
+use Rattle.cs_types.specs.declared.event.Event.TheVariants.{Advance}
 use Rattle.cs_types.specs.declared.reply.Reply.TheVariants.{Now}
 use Rattle.cs_types.specs.declared.task.Task.{Task}
 use Rattle.cs_types.specs.Room.{SiblingState}
@@ -10,6 +11,7 @@ use Rattle.core_tasks.specs.State.{beside_of, room_with, state_numbers}
 use Rattle.core_tasks.proofs.States.{uncharged, lifted, both_stay}
 use Rattle.core_events.proofs.Readies.{low_times}
 use Rattle.core_events.proofs.Onlines.{untouched}
+use Rattle.core_events.proofs.Compared.{for_event}
 use Rattle.core_events.proofs.events.advance.Goals as goal
 
 pub advance-state-requires : goal.advance-state-requires
@@ -29,10 +31,10 @@ advance-state-requires g c =
       short = c.requires.event.1;
     }
 
-pub returns : goal.returns
-returns g c =
+pub returns-clause-makes : goal.returns-clause-makes
+returns-clause-makes g c =
     let old = c.args.state.now in
-    let advances = c.advance-state.ensures in
+    let advances = c.advance-state.ensures.advances in
     let clock = advances.clock in
     record {
       step = λ intervals.
@@ -45,3 +47,6 @@ returns g c =
           });
       stays = both_stay (lifted old (c.advance-state.new.core, c.advance-state.new.table) advances.stays) (record { sound = λ sound. record { agree = sound.agree; limit = sound.limit; user_top = sound.user_top; pids = sound.pids; ended = sound.ended; refs = sound.refs }; siblings = refl; ends = refl });
     }
+
+pub returns-clause-counted : goal.returns-clause-counted
+returns-clause-counted g c = for_event g.met.Q.SiblingQueue.rises (3 * length c.args.state.now.core.lanes.items) c.args.state.now (Advance c.args.delta) _ _ (omega arith) c.advance-state.ensures.counted

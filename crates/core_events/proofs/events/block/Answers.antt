@@ -1,4 +1,4 @@
-use Rattle.std.proofs.Common.{◌≡◌, ◌+◌, ◌<◌, ◌^◌, ap, ◌∙◌, refl, sym, subst, Some, None}
+use Rattle.std.proofs.Common.{◌≡◌, ◌+◌, ◌<◌, ◌^◌, ap, ◌∙◌, refl, sym, subst, Some, None, ◌*◌, length, arith}
 use Rattle.cs_types.specs.declared.event.Event.TheVariants.{Block}
 use Rattle.cs_types.specs.declared.reply.Reply.TheVariants.{Slept, Idle, Offline}
 use Rattle.cs_types.specs.declared.task.Task.{Task}
@@ -11,7 +11,7 @@ use Rattle.cs_types.proofs.Accounts.{now-charge}
 use Rattle.core_lanes.specs.Lanes.{BareCore, AreLow, beside_after, room_of, bare}
 use Rattle.core_lanes.specs.Numbers.{Numbers, booked, took, touched, with_ended}
 use Rattle.core_lanes.proofs.Stays.{both_stay, found_in, some_beside}
-use Rattle.core_tasks.specs.State.{beside_of, room_with, state_numbers}
+use Rattle.core_tasks.specs.State.{both, beside_of, room_with, state_numbers}
 use Rattle.core_tasks.proofs.States.{once_charged, lifted, leaves_all}
 use Rattle.core_events.proofs.Onlines.{there_too, untouched, when_running, when_offline}
 use Rattle.core_events.proofs.Sleeps.{took-touched}
@@ -21,10 +21,12 @@ use Rattle.core_events.proofs.Readies.{low_times, may_pick, may_touch_after, pic
 use Rattle.core_clock.proofs.Changes.{still_below}
 use Rattle.core_events.proofs.events.block.Goals as goal
 use Rattle.task_table.specs.Table.{Table}
+use Rattle.core_lanes.proofs.Counted.{later, and_then, no_more_live}
+use Rattle.core_events.proofs.Compared.{schedule_after, for_event, as_many_siblings}
 use Rattle.core_lanes.specs.Queued.{IsOf}
 
 pub run_idle-requires : goal.run_idle-requires
-run_idle-requires g c = still_below (both_stay c.charge.ensures.charges.stays c.dequeue.ensures.stays) c.requires.cpu
+run_idle-requires g c = still_below (both_stay c.charge.ensures.charges.stays c.dequeue.ensures.touches.stays) c.requires.cpu
 
 pub dequeue-requires : goal.dequeue-requires
 dequeue-requires g c = record {
@@ -50,29 +52,29 @@ pick_and_balance-requires g c =
     let paid : HasLow mid = subst (λ (table : Table). AreLow (bare c.charge.new.core).siblings table.tasks) (sym c.charge.ensures.table)
     (subst (λ (b : BareCore). AreLow b.siblings old.tasks.tasks) (sym paid_core) first) in
     record {
-      cpu = still_below (both_stay c.charge.ensures.charges.stays (both_stay c.dequeue.ensures.stays (c.run_idle.ensures c.dequeue.new.table).stays)) c.requires.cpu;
-      agree = idle.stays.agree (c.dequeue.ensures.stays.agree (c.charge.ensures.charges.stays.agree c.requires.ready.sound.agree));
+      cpu = still_below (both_stay c.charge.ensures.charges.stays (both_stay c.dequeue.ensures.touches.stays (c.run_idle.ensures c.dequeue.new.table).stays)) c.requires.cpu;
+      agree = idle.stays.agree (c.dequeue.ensures.touches.stays.agree (c.charge.ensures.charges.stays.agree c.requires.ready.sound.agree));
       low = subst HasLow
-          (sym (idle.room some_beside ∙ ap (λ (r : RoomState). run_idle r c.args.cpu) (c.dequeue.ensures.room some_beside)))
+          (sym (idle.room some_beside ∙ ap (λ (r : RoomState). run_idle r c.args.cpu) (c.dequeue.ensures.touches.room some_beside)))
           (low_idled (dequeue mid task) c.args.cpu (low_dequeued mid task low paid));
       clock = (may_pick old c.args.cpu c.requires.cpu c.requires.ready).clock;
       touches = may_touch_after old c.requires.ready _ _
-          (ap (λ (b : BareCore). b.task_number) paid_core) (idle.numbers ∙ c.dequeue.ensures.numbers);
+          (ap (λ (b : BareCore). b.task_number) paid_core) (idle.numbers ∙ c.dequeue.ensures.touches.numbers);
     }
 
-pub returns-then-not-is_online : goal.returns-then-not-is_online
-returns-then-not-is_online g c = leaves_all c.args.state.now (Block c.args.cpu) Offline (λ intervals. untouched (state_numbers c.args.state.now)) (λ intervals.
+pub returns-then-not-is_online-clause-makes : goal.returns-then-not-is_online-clause-makes
+returns-then-not-is_online-clause-makes g c = leaves_all c.args.state.now (Block c.args.cpu) Offline (λ intervals. untouched (state_numbers c.args.state.now)) (λ intervals.
     let room = room_with intervals c.args.state.now in
     when_offline room c.args.cpu (block room c.args.cpu (running_on room c.args.cpu)) (sym (c.is_online.ensures (beside_of intervals c.args.state.now) c.args.state.now.tasks) ∙ c.if-not-is_online.true))
 
-pub returns-in_default : goal.returns-in_default
-returns-in_default g c = leaves_all c.args.state.now (Block c.args.cpu) Idle (λ intervals. untouched (state_numbers c.args.state.now)) (λ intervals.
+pub returns-in_default-clause-makes : goal.returns-in_default-clause-makes
+returns-in_default-clause-makes g c = leaves_all c.args.state.now (Block c.args.cpu) Idle (λ intervals. untouched (state_numbers c.args.state.now)) (λ intervals.
     let room = room_with intervals c.args.state.now in
     let beside = beside_of intervals c.args.state.now in
     when_running room c.args.cpu (block room c.args.cpu) None (c.in_default.ensures ∙ c.runner.ensures.task beside) (sym (c.is_online.ensures beside c.args.state.now.tasks) ∙ c.if-not-is_online.false))
 
-pub returns : goal.returns
-returns g c =
+pub returns-clause-makes : goal.returns-clause-makes
+returns-clause-makes g c =
     let old = c.args.state.now in
     let cpu = c.args.cpu in
     let task = c.in-Some.task in
@@ -84,7 +86,7 @@ returns g c =
           let paid = beside_after beside (charge room) in
           let gone = run_idle (dequeue (charge room) task) cpu in
           let is : room_of paid (c.run_idle.new.self, c.dequeue.new.table) ≡ gone =
-          idle.room paid ∙ ap (λ (r : RoomState). run_idle r cpu) (c.dequeue.ensures.room paid ∙ ap (λ (r : RoomState). dequeue r task) (c.charge.ensures.charges.room beside)) in
+          idle.room paid ∙ ap (λ (r : RoomState). run_idle r cpu) (c.dequeue.ensures.touches.room paid ∙ ap (λ (r : RoomState). dequeue r task) (c.charge.ensures.charges.room beside)) in
           let scheduled = picked_charged (room_of paid (c.run_idle.new.self, c.dequeue.new.table)) gone cpu (now-charge room) is in
           let up = when_running room cpu (block room cpu) (Some task) (c.in-Some.ensures ∙ c.runner.ensures.task beside) (sym (c.is_online.ensures beside old.tasks) ∙ c.if-not-is_online.false) in
           once_charged (record {
@@ -92,9 +94,21 @@ returns g c =
             room = c.pick_and_balance.ensures.schedules.room paid ∙ ap (λ (made : Scheduled). made.room) scheduled ∙ ap (λ (m : Stepped). m.room) up;
             numbers = λ kept. ap (with_ended old.ended.items) c.pick_and_balance.ensures.schedules.numbers
                 ∙ ap (λ (numbers : Numbers). took cpu c.pick_and_balance.result numbers)
-                (ap (with_ended old.ended.items) (idle.numbers ∙ c.dequeue.ensures.numbers) ∙ ap (λ (numbers : Numbers). touched 1 numbers) (c.charge.ensures.charges.numbers beside kept))
+                (ap (with_ended old.ended.items) (idle.numbers ∙ c.dequeue.ensures.touches.numbers) ∙ ap (λ (numbers : Numbers). touched 1 numbers) (c.charge.ensures.charges.numbers beside kept))
                 ∙ took-touched room cpu task.spec.pid c.pick_and_balance.result (booked (charge room) (state_numbers old));
           });
       stays = lifted old (c.pick_and_balance.new.core, c.pick_and_balance.new.table)
-          (both_stay c.charge.ensures.charges.stays (both_stay c.dequeue.ensures.stays (both_stay idle.stays c.pick_and_balance.ensures.schedules.stays)));
+          (both_stay c.charge.ensures.charges.stays (both_stay c.dequeue.ensures.touches.stays (both_stay idle.stays c.pick_and_balance.ensures.schedules.stays)));
     }
+
+pub returns-clause-counted : goal.returns-clause-counted
+returns-clause-counted g c =
+    let rises = g.met.Q.SiblingQueue.rises in
+    let old = c.args.state.now in
+    let schedules = 2 * length old.core.lanes.items in
+    let charged = c.charge.ensures.charges.stays in
+    let idle = both_stay charged (both_stay c.dequeue.ensures.touches.stays (c.run_idle.ensures c.dequeue.new.table).stays) in
+    for_event rises (2 + schedules) old (Block c.args.cpu) _ _ (omega arith)
+    (and_then 2 schedules (2 + schedules) (both old) _ _ _ refl
+    (later rises 2 (c.charge.new.core, c.charge.new.table) (both old) _ _ (no_more_live charged) c.dequeue.ensures.counted)
+    (schedule_after rises (c.run_idle.new.self, c.dequeue.new.table) (both old) _ _ (as_many_siblings idle) (no_more_live idle) c.pick_and_balance.ensures.counted))

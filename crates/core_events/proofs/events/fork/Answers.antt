@@ -1,4 +1,4 @@
-use Rattle.std.proofs.Common.{◌≡◌, ap, ◌∙◌, sym, subst, ◌<◌, length, arith, []}
+use Rattle.std.proofs.Common.{◌≡◌, ap, ◌∙◌, sym, subst, ◌<◌, length, arith, [], ◌+◌, ◌≤◌}
 use Rattle.std.proofs.lemmas.Bool.{cond-false, cond-true}
 use Rattle.std.specs.Prelude.{Some}
 use Rattle.cs_types.specs.declared.reply.Reply.TheVariants.{Child, NoCaller, Refused}
@@ -17,6 +17,7 @@ use Rattle.cs_types.specs.declared.reply.Errno.TheVariants.{Eagain}
 use Rattle.core_tasks.specs.declared.state.State.{State}
 use Rattle.core_tasks.specs.Steps.{Makes}
 use Rattle.core_events.proofs.Onlines.{untouched}
+use Rattle.cs_types.proofs.Inserted.{length-inserted}
 use Rattle.core_events.proofs.events.fork.Goals as goal
 
 pub child_at_home-task-requires : goal.child_at_home-task-requires
@@ -48,14 +49,14 @@ queue_at_home-requires g c =
       touches = omega (arith, ap (λ (numbers : Numbers). numbers.task) born.numbers, c.requires.ready.spares.touches);
     }
 
-pub returns-in-Ok : goal.returns-in-Ok
-returns-in-Ok g c =
+pub returns-in-Ok-clause-makes : goal.returns-in-Ok-clause-makes
+returns-in-Ok-clause-makes g c =
     let old = c.args.state.now in
     let after = c.make_child.new.self in
     let makes = c.in-Ok.ensures in
     let born = makes.2 in
     let child = c.in-Ok.child in
-    let queued = c.queue_at_home.ensures in
+    let queued = c.queue_at_home.ensures.touches in
     record {
       step = λ intervals.
           let room = room_with intervals old in
@@ -76,19 +77,26 @@ returns-in-Ok g c =
       stays = both_stay born.stays (lifted after (c.queue_at_home.new.core, c.queue_at_home.new.table) queued.stays);
     }
 
-pub returns-in-Err-NoCaller : goal.returns-in-Err-NoCaller
-returns-in-Err-NoCaller g c =
+pub returns-in-Err-NoCaller-clause-makes : goal.returns-in-Err-NoCaller-clause-makes
+returns-in-Err-NoCaller-clause-makes g c =
     let old = c.args.state.now in
     let makes = rw c.in-Err-NoCaller.field-0-is at c.in-Err-NoCaller.ensures in
     subst (λ (new : State _ _ _). Makes old new (Fork c.args.caller c.args.thread) NoCaller) (sym makes.1)
     (leaves_all old (Fork c.args.caller c.args.thread) NoCaller (λ intervals. untouched (state_numbers old)) (λ intervals.
     ap (fork (room_with intervals old) c.args.thread) (sym makes.0)))
 
-pub returns-in-Err-Eagain : goal.returns-in-Err-Eagain
-returns-in-Err-Eagain g c =
+pub returns-in-Err-Eagain-clause-makes : goal.returns-in-Err-Eagain-clause-makes
+returns-in-Err-Eagain-clause-makes g c =
     let old = c.args.state.now in
     let makes = rw c.in-Err-Eagain.field-0-is at c.in-Err-Eagain.ensures in
     subst (λ (new : State _ _ _). Makes old new (Fork c.args.caller c.args.thread) (Refused Eagain)) (sym makes.3)
     (leaves_all old (Fork c.args.caller c.args.thread) (Refused Eagain) (λ intervals. untouched (state_numbers old)) (λ intervals.
     let room = room_with intervals old in
     sym (cond-true _ (record { reply = Refused Eagain; room = room }) _ makes.2) ∙ ap (fork room c.args.thread) (sym makes.1)))
+
+pub returns-in-Ok-clause-counted : goal.returns-in-Ok-clause-counted
+returns-in-Ok-clause-counted g c =
+    let old = c.args.state.now in
+    let tasks = length old.tasks.tasks in
+    let few : length c.make_child.new.self.tasks.tasks ≤ tasks + 1 = omega (arith, ap (λ (r : RoomState). length r.tasks) (c.in-Ok.ensures.2.room []), length-inserted c.in-Ok.child old.tasks.tasks) in
+    omega (arith, c.queue_at_home.ensures.counted, g.met.Q.SiblingQueue.rises (length c.make_child.new.self.tasks.tasks) (tasks + 1) few)

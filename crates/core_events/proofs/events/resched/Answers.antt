@@ -1,4 +1,4 @@
-use Rattle.std.proofs.Common.{◌≡◌, ◌∙◌, ap, sym, subst}
+use Rattle.std.proofs.Common.{◌≡◌, ◌∙◌, ap, sym, subst, ◌*◌, length, arith}
 use Rattle.cs_types.specs.declared.event.Event.TheVariants.{Resched}
 use Rattle.cs_types.specs.declared.reply.Reply.TheVariants.{Picked, Offline}
 use Rattle.cs_types.specs.Selection.{Scheduled, schedule}
@@ -6,12 +6,13 @@ use Rattle.cs_types.specs.Step.{picked}
 use Rattle.core_lanes.specs.Lanes.{at, beside_after, room_of}
 use Rattle.core_lanes.specs.Numbers.{booked, took, is_fresh_by}
 use Rattle.core_tasks.specs.declared.state.State.{State}
-use Rattle.core_tasks.specs.State.{beside_of, room_with, state_numbers}
+use Rattle.core_tasks.specs.State.{both, beside_of, room_with, state_numbers}
 use Rattle.core_tasks.specs.Steps.{MakesStep, Makes}
 use Rattle.core_tasks.proofs.States.{lifted, leaves_all}
 use Rattle.core_events.proofs.Onlines.{untouched, when_online, when_offline}
 use Rattle.core_events.proofs.Sleeps.{took-resched}
 use Rattle.core_events.proofs.Readies.{may_schedule, same_schedule}
+use Rattle.core_events.proofs.Compared.{schedule_calls, for_event}
 use Rattle.core_events.proofs.events.resched.Goals as goal
 
 pub schedule-requires : goal.schedule-requires
@@ -51,3 +52,15 @@ returns-in-None-clause-makes g c =
     (leaves_all old (Resched cpu) Offline (λ intervals. untouched (state_numbers old)) (λ intervals.
     let room = room_with intervals old in
     when_offline room cpu (picked Picked (schedule room fresh cpu)) (sym (c.in-None.ensures.online (beside_of intervals old)))))
+
+pub returns-in-Some-clause-counted : goal.returns-in-Some-clause-counted
+returns-in-Some-clause-counted g c =
+    let old = c.args.state.now in
+    let rises = g.met.Q.SiblingQueue.rises in
+    for_event rises (2 * length old.core.lanes.items) old (Resched c.args.cpu) _ _ (omega arith) (schedule_calls rises (both old) _ _ c.in-Some.ensures.counted)
+
+pub returns-in-None-clause-counted : goal.returns-in-None-clause-counted
+returns-in-None-clause-counted g c =
+    let old = c.args.state.now in
+    let rises = g.met.Q.SiblingQueue.rises in
+    for_event rises (2 * length old.core.lanes.items) old (Resched c.args.cpu) _ _ (omega arith) (schedule_calls rises (both old) _ _ c.in-None.ensures.counted)

@@ -12,6 +12,7 @@ use Rattle.core_events.proofs.Onlines.{untouched}
 use Rattle.core_tasks.proofs.Known.{fits_found, knows_as}
 use Rattle.cs_types.specs.declared.event.Event.TheVariants.{SetSched}
 use Rattle.cs_types.specs.declared.reply.Reply.TheVariants.{NoTask}
+use Rattle.core_events.proofs.Compared.{for_event}
 use Rattle.core_events.proofs.events.set_policy.Goals as goal
 
 -- the numbers once the touches of a change of policy came, where the task was found
@@ -46,8 +47,8 @@ change-requires g c =
       stamp = λ queued. let bad : false ≡ true = sym asleep ∙ queued in absurd cc;
     })
 
-pub returns-else-task : goal.returns-else-task
-returns-else-task g c =
+pub returns-else-task-clause-makes : goal.returns-else-task-clause-makes
+returns-else-task-clause-makes g c =
     let old = c.args.state.now in
     record {
       step = λ intervals.
@@ -57,17 +58,17 @@ returns-else-task g c =
           let changed = with_policy c.args.policy task in
           uncharged (record {
             reply = ap (λ found. (set_policy room c.args.policy found).reply) c.in-Some.ensures.task;
-            room = c.change.ensures.room beside ∙ ap (with_task room) c.with_policy-changed.ensures
+            room = c.change.ensures.changes.room beside ∙ ap (with_task room) c.with_policy-changed.ensures
                 ∙ ap (λ b. cond b (requeue room changed) (with_task room changed)) (sym c.if-task.false)
                 ∙ ap (λ found. (set_policy room c.args.policy found).room) c.in-Some.ensures.task;
-            numbers = ap (with_ended old.ended.items) c.change.ensures.numbers ∙ untouched (state_numbers old)
+            numbers = ap (with_ended old.ended.items) c.change.ensures.changes.numbers ∙ untouched (state_numbers old)
                 ∙ found_numbers (state_numbers old) task _ false c.in-Some.ensures.task c.if-task.false;
           });
-      stays = lifted old (c.change.new.self, c.change.new.table) c.change.ensures.stays;
+      stays = lifted old (c.change.new.self, c.change.new.table) c.change.ensures.changes.stays;
     }
 
-pub returns-then-task : goal.returns-then-task
-returns-then-task g c =
+pub returns-then-task-clause-makes : goal.returns-then-task-clause-makes
+returns-then-task-clause-makes g c =
     let old = c.args.state.now in
     record {
       step = λ intervals.
@@ -77,15 +78,21 @@ returns-then-task g c =
           let changed = with_policy c.args.policy task in
           uncharged (record {
             reply = ap (λ found. (set_policy room c.args.policy found).reply) c.in-Some.ensures.task;
-            room = c.requeue.ensures.room beside ∙ ap (requeue room) c.with_policy-changed.ensures
+            room = c.requeue.ensures.touches.room beside ∙ ap (requeue room) c.with_policy-changed.ensures
                 ∙ ap (λ b. cond b (requeue room changed) (with_task room changed)) (sym c.if-task.true)
                 ∙ ap (λ found. (set_policy room c.args.policy found).room) c.in-Some.ensures.task;
-            numbers = ap (with_ended old.ended.items) c.requeue.ensures.numbers
+            numbers = ap (with_ended old.ended.items) c.requeue.ensures.touches.numbers
                 ∙ found_numbers (state_numbers old) task _ true c.in-Some.ensures.task c.if-task.true;
           });
-      stays = lifted old (c.requeue.new.core, c.requeue.new.table) c.requeue.ensures.stays;
+      stays = lifted old (c.requeue.new.core, c.requeue.new.table) c.requeue.ensures.touches.stays;
     }
 
-pub returns-in_default : goal.returns-in_default
-returns-in_default g c = leaves_all c.args.state.now (SetSched c.args.pid c.args.policy) NoTask (λ intervals. untouched (state_numbers c.args.state.now)) (λ intervals.
+pub returns-in_default-clause-makes : goal.returns-in_default-clause-makes
+returns-in_default-clause-makes g c = leaves_all c.args.state.now (SetSched c.args.pid c.args.policy) NoTask (λ intervals. untouched (state_numbers c.args.state.now)) (λ intervals.
     ap (set_policy (room_with intervals c.args.state.now) c.args.policy) c.in_default.ensures.task)
+
+pub returns-then-task-clause-counted : goal.returns-then-task-clause-counted
+returns-then-task-clause-counted g c = for_event g.met.Q.SiblingQueue.rises 4 c.args.state.now (SetSched c.args.pid c.args.policy) _ _ (omega arith) c.requeue.ensures.counted
+
+pub returns-else-task-clause-counted : goal.returns-else-task-clause-counted
+returns-else-task-clause-counted g c = for_event g.met.Q.SiblingQueue.rises 2 c.args.state.now (SetSched c.args.pid c.args.policy) _ _ (omega arith) c.change.ensures.counted

@@ -1,4 +1,4 @@
-use Rattle.std.proofs.Common.{arith, ◌∙◌, ap, sym}
+use Rattle.std.proofs.Common.{arith, ◌∙◌, ap, sym, ◌+◌, length}
 use Rattle.cs_types.specs.declared.event.Event.TheVariants.{Offline}
 use Rattle.cs_types.specs.Step.{take_offline}
 use Rattle.core_lanes.specs.Numbers.{booked}
@@ -6,6 +6,7 @@ use Rattle.core_tasks.specs.State.{beside_of, room_with, state_numbers}
 use Rattle.core_tasks.specs.Steps.{numbers_after}
 use Rattle.core_tasks.proofs.States.{lifted}
 use Rattle.core_events.proofs.Readies.{low_times, offline_touches}
+use Rattle.core_events.proofs.Compared.{for_event}
 use Rattle.core_events.proofs.events.take_offline.Goals as goal
 
 pub offline-requires : goal.offline-requires
@@ -22,11 +23,11 @@ offline-requires g c =
       paid = ready.paid;
     }
 
-pub returns : goal.returns
-returns g c =
+pub returns-clause-makes : goal.returns-clause-makes
+returns-clause-makes g c =
     let old = c.args.state.now in
     let cpu = c.args.cpu in
-    let takes = c.offline.ensures in
+    let takes = c.offline.ensures.leaves in
     record {
       step = λ intervals.
           let room = room_with intervals old in
@@ -40,3 +41,6 @@ returns g c =
           };
       stays = lifted old (c.offline.new.core, c.offline.new.table) takes.stays;
     }
+
+pub returns-clause-counted : goal.returns-clause-counted
+returns-clause-counted g c = for_event g.met.Q.SiblingQueue.rises (length c.args.state.now.tasks.tasks + 4) c.args.state.now (Offline c.args.cpu) _ _ (omega arith) c.offline.ensures.counted

@@ -1,4 +1,4 @@
-use Rattle.std.proofs.Common.{◌≡◌, ◌∙◌, ap, sym, subst, Bool, cond, true, false, eqb, ℕ, arith}
+use Rattle.std.proofs.Common.{◌≡◌, ◌∙◌, ap, sym, subst, Bool, cond, true, false, eqb, ℕ, arith, ◌*◌, ◌+◌, length}
 use Rattle.cs_types.specs.declared.event.Event.TheVariants.{Turn, Resched}
 use Rattle.cs_types.specs.declared.reply.Reply.TheVariants.{Picked, Nothing, Offline}
 use Rattle.cs_types.specs.Room.{RoomState, SiblingState, sibling_of}
@@ -12,6 +12,8 @@ use Rattle.core_tasks.specs.Steps.{numbers_after}
 use Rattle.core_tasks.proofs.States.{uncharged, lifted, leaves_all}
 use Rattle.core_events.proofs.Onlines.{untouched, when_online, when_offline}
 use Rattle.core_events.proofs.Readies.{low_times, turn_as_resched, turn_touches}
+use Rattle.std.proofs.Math.Nat.{mul-le-mul_right, le-max_left, le-max_right}
+use Rattle.core_events.proofs.Compared.{for_event}
 use Rattle.core_events.proofs.events.turn.Goals as goal
 
 pub try_steal-requires : goal.try_steal-requires
@@ -66,7 +68,7 @@ returns-clause-makes g c =
     let old = c.args.state.now in
     let cpu = c.args.cpu in
     let fresh = is_fresh_by (state_numbers old) in
-    let tried = c.try_steal.ensures in
+    let tried = c.try_steal.ensures.tries in
     record {
       step = λ intervals.
           let room = room_with intervals old in
@@ -83,3 +85,16 @@ returns-clause-makes g c =
           });
       stays = lifted old (c.try_steal.new.core, c.try_steal.new.table) tried.stays;
     }
+
+pub returns-then-index-clause-counted : goal.returns-then-index-clause-counted
+returns-then-index-clause-counted g c =
+    let old = c.args.state.now in
+    let siblings = length old.core.lanes.items in
+    let tasks = length old.tasks.tasks in
+    omega (arith, c.resched.ensures.counted, mul-le-mul_right (g.Q.SiblingQueue.most_compared (tasks + 1)) (le-max_left (2 * siblings) (tasks + 4)))
+
+pub returns-clause-counted : goal.returns-clause-counted
+returns-clause-counted g c =
+    let old = c.args.state.now in
+    let tasks = length old.tasks.tasks in
+    for_event g.met.Q.SiblingQueue.rises (tasks + 4) old (Turn c.args.cpu) _ _ (le-max_right (2 * length old.core.lanes.items) (tasks + 4)) c.try_steal.ensures.counted

@@ -17,6 +17,7 @@ use Rattle.core_tasks.proofs.Known.{fits_found, knows_as}
 use Rattle.cs_types.specs.declared.event.Event.TheVariants.{Wake}
 use Rattle.core_events.proofs.Onlines.{untouched}
 use Rattle.core_lanes.specs.Numbers.{with_ended}
+use Rattle.core_events.proofs.Compared.{for_event}
 use Rattle.core_events.proofs.events.wake.Goals as goal
 
 pub rehome-requires : goal.rehome-requires
@@ -51,11 +52,11 @@ queue_at_home-requires g c =
       touches = omega (arith, c.requires.ready.spares.touches);
     }
 
-pub returns : goal.returns
-returns g c =
+pub returns-clause-makes : goal.returns-clause-makes
+returns-clause-makes g c =
     let old = c.args.state.now in
     let task = c.in-Some.task in
-    let queued = c.queue_at_home.ensures in
+    let queued = c.queue_at_home.ensures.touches in
     record {
       step = λ intervals.
           let room = room_with intervals old in
@@ -71,11 +72,14 @@ returns g c =
       stays = lifted old (c.queue_at_home.new.core, c.queue_at_home.new.table) queued.stays;
     }
 
-pub returns-in_default : goal.returns-in_default
-returns-in_default g c = leaves_all c.args.state.now (Wake c.args.pid) NoTask (λ intervals. untouched (state_numbers c.args.state.now)) (λ intervals.
+pub returns-in_default-clause-makes : goal.returns-in_default-clause-makes
+returns-in_default-clause-makes g c = leaves_all c.args.state.now (Wake c.args.pid) NoTask (λ intervals. untouched (state_numbers c.args.state.now)) (λ intervals.
     ap (wake (room_with intervals c.args.state.now)) c.in_default.ensures.task)
 
-pub returns-then-task : goal.returns-then-task
-returns-then-task g c = leaves_all c.args.state.now (Wake c.args.pid) Awake (λ intervals. untouched (state_numbers c.args.state.now)) (λ intervals.
+pub returns-then-task-clause-makes : goal.returns-then-task-clause-makes
+returns-then-task-clause-makes g c = leaves_all c.args.state.now (Wake c.args.pid) Awake (λ intervals. untouched (state_numbers c.args.state.now)) (λ intervals.
     let room = room_with intervals c.args.state.now in
     sym (cond-true c.in-Some.task.queued (record { reply = Awake; room = room }) _ c.if-task.true) ∙ ap (wake room) c.in-Some.ensures.task)
+
+pub returns-clause-counted : goal.returns-clause-counted
+returns-clause-counted g c = for_event g.met.Q.SiblingQueue.rises 2 c.args.state.now (Wake c.args.pid) _ _ (omega arith) c.queue_at_home.ensures.counted

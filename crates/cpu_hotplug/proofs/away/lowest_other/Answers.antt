@@ -1,9 +1,9 @@
-use Rattle.std.proofs.Common.{◌≡◌, ◌<◌, ◌∙◌, ℕ, Bool, false, not, ap, sym, map, length, eq-eqb, ne_eqb, arith}
+use Rattle.std.proofs.Common.{◌≡◌, ◌<◌, ◌∙◌, false, not, ap, sym, map, length, eq-eqb, ne_eqb, arith}
 use Rattle.std.specs.Prelude.{find, unwrap_or, ◌&&◌, ◌==◌}
 use Rattle.std.specs.List.{range_with_len}
 use Rattle.std.proofs.Math.Bool.{and-false}
 use Rattle.std.proofs.lemmas.List.{length-map}
-use Rattle.cs_types.specs.Room.{RoomState, is_online}
+use Rattle.cs_types.specs.Room.{is_online}
 use Rattle.task_table.specs.Table.{Table}
 use Rattle.core_lanes.specs.Lanes.{Beside, lane_state, room_of}
 use Rattle.core_lanes.proofs.Onlines.{none_more, first_found, online_is}
