@@ -1,7 +1,7 @@
 //! What an advance of the clock and a tick of a sibling's timer do. It is a file of its own since these
 //! alone move time.
 
-ghost use Rattle.std.specs.Prelude.{◌≡◌, ℕ, ◌+◌, ◌*◌, ◌^◌, ◌<◌, map, length, All, find, Some};
+ghost use Rattle.std.specs.Prelude.{if◌then◌else◌, ◌≡◌, ℕ, ◌+◌, ◌*◌, ◌^◌, ◌<◌, map, length, All, find, Some};
 ghost use Rattle.cs_types.specs.declared.task.Task.{Task as SomeTask};
 ghost use Rattle.cs_types.specs.Room.{has_pid};
 ghost use Rattle.cs_types.specs.Time as time;
@@ -196,7 +196,7 @@ fn asks_at_tick<Q: SiblingQueue, L: Ledger>(
     requires may { MayAsk cpu (core.now, table.now) task.now }
     requires rotates { (beside : Beside) → rotates ≡ time.rotates (room_of beside (core.now, table.now)) cpu task.now }
     ensures asks { (beside : Beside) → result ≡ asks_at_tick (room_of beside (core.now, table.now)) cpu task.now }
-    ensures counted { ComparesFor 2 (core.now, table.now) steps.old steps.new }
+    ensures counted { ComparesFor (if rotates then 0 else 2) (core.now, table.now) steps.old steps.new }
 {
     if rotates {
         return true;
@@ -217,7 +217,7 @@ fn begin_slice<Q: SiblingQueue, L: Ledger>(
     requires { MayBeginSlice pid (core.old, table.old) }
     ensures changes { (cpu : ℕ) (task : SomeTask) → find (has_pid pid) table.old.tasks ≡ Some task → AreTests cpu (core.old, table.old) task used rotates →
         Changes (core.old, table.old) (core.new, table.new) (λ room. begin_slice room cpu task) }
-    ensures counted { ComparesFor 2 (core.old, table.old) steps.old steps.new }
+    ensures counted { ComparesFor (if rotates then 2 else 0) (core.old, table.old) steps.old steps.new }
 {
     if rotates {
         let task = task_of(table, pid).unwrap();
@@ -245,7 +245,7 @@ pub fn tick<Q: SiblingQueue, L: Ledger>(
 ) -> bool
     requires { MayTick now cpu (core.old, table.old) }
     ensures ticks { Ticks now (core.old, table.old) (core.new, table.new) cpu result }
-    ensures counted { ComparesFor 5 (core.old, table.old) steps.old steps.new }
+    ensures counted { ComparesFor 3 (core.old, table.old) steps.old steps.new }
 {
     charge(core, table, now);
     let Some(task) = core.runner(table, cpu) else {

@@ -1,16 +1,13 @@
 -- Compared: how the comparisons of the parts of an event add up to those of the event.
-use Rattle.std.proofs.Common.{◌≡◌, ℕ, ◌+◌, ◌*◌, ◌≤◌, subst, ap, length, refl, arith}
-use Rattle.std.specs.Prelude.{◌==◌, ◌&&◌, not}
+use Rattle.std.proofs.Common.{◌≡◌, ℕ, ◌+◌, ◌*◌, ◌≤◌, subst, ap, length, arith}
 use Rattle.std.proofs.Math.Nat.{mul_assoc, mul-le-mul_left, mul-le-mul_right}
-use Rattle.std.proofs.lemmas.List.Filters.{length-filter_both}
-use Rattle.cs_types.specs.declared.task.Task.{Task}
 use Rattle.cs_types.specs.declared.event.Event.{Event}
 use Rattle.task_table.specs.Table.{Table}
 use Rattle.core_lanes.specs.declared.queue.SiblingQueue.{Ghosts}
 use Rattle.core_lanes.specs.declared.lanes.Core.{Core}
 use Rattle.core_lanes.specs.Changes.{Kept, Stays}
 use Rattle.core_lanes.specs.Comparisons.{ComparesFor}
-use Rattle.core_lanes.proofs.Counted.{later}
+use Rattle.core_lanes.proofs.Counted.{few_queued, later}
 use Rattle.core_pick.specs.Comparisons.{ComparesForSchedule}
 use Rattle.core_tasks.specs.declared.state.State.{State}
 use Rattle.core_tasks.specs.State.{both}
@@ -22,7 +19,7 @@ module _ {Q : Type 0} {g : Ghosts Q} (rises : (few many : ℕ) → few ≤ many 
   schedule_calls both old new made =
       omega (
         arith,
-        made (length both.1.tasks) (λ cpu below. omega (arith, length-filter_both (λ (task : Task). task.queued && (task.home == cpu)) (λ task. not (task.queued && (task.home == cpu))) (λ task. refl) both.1.tasks)),
+        made (length both.1.tasks) (λ cpu below. few_queued both.1.tasks cpu),
         mul_assoc 2 (length both.0.lanes.items) (g.most_compared (length both.1.tasks)),
       )
 

@@ -1,9 +1,9 @@
 -- Counted: how the comparisons of one call and of several are bounded.
-use Rattle.std.proofs.Common.{◌≡◌, ◌∙◌, ℕ, ◌+◌, ◌≤◌, List, refl, sym, ap, length, arith}
-use Rattle.std.specs.Prelude.{◌==◌, ◌&&◌, not}
+use Rattle.std.proofs.Common.{◌≡◌, ◌∙◌, ℕ, ◌+◌, ◌≤◌, List, sym, ap, length, arith}
+use Rattle.std.specs.Prelude.{◌==◌, ◌&&◌}
 use Rattle.std.proofs.Math.Nat.{add-mul, mul-le-mul_left}
 use Rattle.std.proofs.lemmas.List.{length-map}
-use Rattle.std.proofs.lemmas.List.Filters.{length-filter_both}
+use Rattle.std.proofs.lemmas.List.Sums.{length-filter, count_by-le-length}
 use Rattle.cs_types.specs.declared.task.Task.{Task}
 use Rattle.task_table.specs.Table.{Table}
 use Rattle.core_lanes.specs.Queued.{queued_among}
@@ -12,11 +12,16 @@ use Rattle.core_lanes.specs.declared.lanes.Core.{Core}
 use Rattle.core_lanes.specs.Changes.{Kept, kept_of, identity_of, Stays}
 use Rattle.core_lanes.specs.Comparisons.{ComparesFor}
 
--- a call of a queue makes no more than one of a queue that has all tasks
+-- no more tasks are queued on a sibling than live
+pub few_queued : (tasks : List Task) (cpu : ℕ) → length (queued_among tasks cpu) ≤ length tasks
+few_queued tasks cpu =
+    let there = λ (task : Task). task.queued && (task.home == cpu) in
+    omega (arith, length-filter there tasks, count_by-le-length there tasks)
+
+-- so a call of a queue makes no more than one of a queue that has all
 pub of_one : (most : ℕ → ℕ) → ((few many : ℕ) → few ≤ many → most few ≤ most many) → (tasks : List Task) (cpu : ℕ) →
     most (length (queued_among tasks cpu)) ≤ most (length tasks)
-of_one most rises tasks cpu =
-    rises _ _ (omega (arith, length-filter_both (λ (task : Task). task.queued && (task.home == cpu)) (λ task. not (task.queued && (task.home == cpu))) (λ task. refl) tasks))
+of_one most rises tasks cpu = rises _ _ (few_queued tasks cpu)
 
 -- as many tasks live where their pids and cookies stay
 pub as_many_live : {Q : Type 0} {g : Ghosts Q} (old new : Core Q g × Table) → kept_of new ≡ kept_of old → length new.1.tasks ≡ length old.1.tasks

@@ -17,7 +17,8 @@ use Rattle.core_lanes.specs.Changes.{Kept, kept_of, identity_of, MovesBy}
 use Rattle.core_lanes.proofs.Stays.{some_beside, found_in, as_many_bare}
 use Rattle.cpu_hotplug.specs.Leaves.{MayMoveAllTo}
 use Rattle.cpu_hotplug.proofs.Ranks.{each_of}
-use Rattle.cpu_hotplug.proofs.Leaving.{few, length-told, moved_is, so_far, none_moved, all_moved, one_more, next_found, IsNext}
+use Rattle.core_lanes.proofs.Counted.{few_queued}
+use Rattle.cpu_hotplug.proofs.Leaving.{length-told, moved_is, so_far, none_moved, all_moved, one_more, next_found, IsNext}
 
 -- so many tasks of the sibling moved
 pub record MovedSoFar {Q : Type 0} {g : Ghosts Q} (Held : Type 0) (cpu count : ℕ) (old now : Core Q g × Table) : Type 0 where
@@ -74,8 +75,8 @@ module _ {Q : Type 0} {g : Ghosts Q} (cpu to : ℕ) (places : List ℕ) (core : 
             vtime = found_in (λ (one : Task). one.vtime < 2 ^ 100) task.spec.pid table.tasks task may.may.low.vtimes next.there;
             leasts = subst (λ (siblings : List SiblingState). All (λ (sibling : SiblingState). sibling.least < 2 ^ 100) siblings)
                 (sym (ap (λ (room : RoomState). room.siblings) (moved.room some_beside))) may.may.low.leasts;
-            stamp = omega (arith, ap (λ (one : RoomState). one.next_stamp) (moved.room some_beside), within, movers_are, few table.tasks cpu, may.may.stamp);
-            touches = omega (arith, ap (λ (numbers : Numbers). numbers.task) moved.numbers, within, movers_are, few table.tasks cpu, may.may.touches);
+            stamp = omega (arith, ap (λ (one : RoomState). one.next_stamp) (moved.room some_beside), within, movers_are, few_queued table.tasks cpu, may.may.stamp);
+            touches = omega (arith, ap (λ (numbers : Numbers). numbers.task) moved.numbers, within, movers_are, few_queued table.tasks cpu, may.may.touches);
           }
 
       -- and once it has, one more moved
@@ -113,7 +114,7 @@ module _ {Q : Type 0} {g : Ghosts Q} (cpu to : ℕ) (places : List ℕ) (core : 
 
       -- so no more moved than live
       pub within_all : count ≤ length table.tasks
-      within_all = omega (arith, all, few table.tasks cpu)
+      within_all = omega (arith, all, few_queued table.tasks cpu)
 
       pub tasks_all : now.1.tasks ≡ map (moved_off room cpu) table.tasks
       tasks_all =

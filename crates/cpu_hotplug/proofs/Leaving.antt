@@ -6,7 +6,6 @@ use Rattle.std.proofs.Math.Bool.{and-false}
 use Rattle.std.proofs.lemmas.Bool.{cond-true, cond-false, cases_Bool, eqb-true, eqb-false, and_parts, lt-ltb}
 use Rattle.std.proofs.lemmas.Bool.Decides.{nat_tests}
 use Rattle.std.proofs.lemmas.List.{length-map, get_or-map}
-use Rattle.std.proofs.lemmas.List.Sums.{length-filter, count_by-le-length}
 use Rattle.std.proofs.lemmas.List.Elements.{All-contains_itself, recursion_from_All}
 use Rattle.cs_types.specs.declared.task.Task.{Task}
 use Rattle.cs_types.specs.Room.{RoomState, SiblingState, has_pid, queued_on}
@@ -16,17 +15,14 @@ use Rattle.cs_types.proofs.Filtered.{Contains-filter, each_found}
 use Rattle.task_table.specs.Table.{Rises}
 use Rattle.core_lanes.specs.Queued.{queued_among, mover_of, AreTold, count_before, IsOf, AreStamped}
 use Rattle.core_lanes.proofs.Queues.{is_on}
+use Rattle.core_lanes.proofs.Counted.{few_queued}
 use Rattle.cpu_hotplug.proofs.Ranks.{fewer_before, same_stamp, length-movers, mover_at, rank_at}
 
 -- ---- how many move
 
--- no more than there are
-pub few : (tasks : List Task) (cpu : ℕ) → length (queued_among tasks cpu) ≤ length tasks
-few tasks cpu = omega (arith, length-filter (λ (task : Task). task.queued && (task.home == cpu)) tasks, count_by-le-length (λ (task : Task). task.queued && (task.home == cpu)) tasks)
-
--- and there are places for all
+-- there are places for all
 pub enough : (tasks : List Task) (cpu limit count : ℕ) → count ≡ length (queued_among tasks cpu) → length tasks ≤ limit → limit ≤ 256 → count ≤ 256
-enough tasks cpu limit count is within most = omega (arith, is, within, most, few tasks cpu)
+enough tasks cpu limit count is within most = omega (arith, is, within, most, few_queued tasks cpu)
 
 -- ---- the task that moves
 

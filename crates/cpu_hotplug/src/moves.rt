@@ -26,7 +26,7 @@ pub fn move_off<Q: SiblingQueue, L: Ledger>(
 )
     requires { MayMoveOff cpu (core.old, table.old) }
     ensures touches { Touches (2 * length (queued_among table.old.tasks cpu)) (core.old, table.old) (core.new, table.new) (λ room. move_off room cpu) }
-    ensures counted { ComparesFor (length table.old.tasks + 4) (core.old, table.old) steps.old steps.new }
+    ensures counted { ComparesFor (length table.old.tasks + 1) (core.old, table.old) steps.old steps.new }
 {
     let count = core.lanes[cpu as usize].queue.count(table, cpu);
     if count == 0 {

@@ -1,4 +1,4 @@
-use Rattle.std.proofs.Common.{◌≡◌, ◌∙◌, ap, subst, refl, arith, Option, Some, None, ◌+◌, ◌*◌, ◌<◌, ◌≤◌, ◌^◌, sym}
+use Rattle.std.proofs.Common.{◌≡◌, ◌∙◌, ap, subst, refl, arith, Option, Some, None, ◌+◌, ◌*◌, ◌<◌, ◌≤◌, ◌^◌, sym, Bool, true, false, cond, ℕ}
 use Rattle.std.specs.Option.{IsSome}
 use Rattle.cs_types.specs.declared.task.Task.{Task}
 use Rattle.cs_types.specs.declared.reply.Reply.TheVariants.{Ticked}
@@ -112,8 +112,14 @@ returns-clause-ticks g c =
       };
     }
 
+-- a task that goes behind its peers is asked no more, and another stays where it is
+in_turn : (rotates : Bool) (start peers asks end most : ℕ) → peers ≤ start + 1 * most → asks ≤ peers + cond rotates 0 2 * most → end ≤ asks + cond rotates 2 0 * most →
+    end ≤ start + 3 * most
+in_turn true start peers asks end most one two three = omega (arith, one, two, three)
+in_turn false start peers asks end most one two three = omega (arith, one, two, three)
+
 pub returns-clause-counted : goal.returns-clause-counted
 returns-clause-counted g c =
     let many = as_many_live (c.args.core.now, c.args.table.now) (c.charge.new.core, c.charge.new.table) c.charge.ensures.charges.stays.kept in
-    subst (λ n. c.begin_slice.new.steps ≤ c.args.steps.now + 5 * g.Q.SiblingQueue.most_compared n) many
-    (omega (arith, c.rotates-rotates.ensures.counted, c.asks_at_tick-asks.ensures.counted, c.begin_slice.ensures.counted))
+    subst (λ n. c.begin_slice.new.steps ≤ c.args.steps.now + 3 * g.Q.SiblingQueue.most_compared n) many
+    (in_turn c.rotates-rotates.result _ _ _ _ _ c.rotates-rotates.ensures.counted c.asks_at_tick-asks.ensures.counted c.begin_slice.ensures.counted)

@@ -43,4 +43,4 @@ returns-clause-makes g c =
     }
 
 pub returns-clause-counted : goal.returns-clause-counted
-returns-clause-counted g c = for_event g.met.Q.SiblingQueue.rises (length c.args.state.now.tasks.tasks + 4) c.args.state.now (Offline c.args.cpu) _ _ (omega arith) c.offline.ensures.counted
+returns-clause-counted g c = for_event g.met.Q.SiblingQueue.rises (length c.args.state.now.tasks.tasks + 1) c.args.state.now (Offline c.args.cpu) _ _ (omega arith) c.offline.ensures.counted

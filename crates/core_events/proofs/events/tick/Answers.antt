@@ -41,4 +41,4 @@ returns-clause-makes g c =
     }
 
 pub returns-clause-counted : goal.returns-clause-counted
-returns-clause-counted g c = for_event g.met.Q.SiblingQueue.rises 5 c.args.state.now (Tick c.args.cpu) _ _ (omega arith) c.tick.ensures.counted
+returns-clause-counted g c = for_event g.met.Q.SiblingQueue.rises 3 c.args.state.now (Tick c.args.cpu) _ _ (omega arith) c.tick.ensures.counted

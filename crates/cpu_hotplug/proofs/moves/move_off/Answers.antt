@@ -1,4 +1,5 @@
 use Rattle.std.proofs.Common.{◌≡◌, ◌+◌, ◌<◌, ◌≤◌, ℕ, List, refl, sym, subst, ap, ◌∙◌, arith, length, take}
+use Rattle.std.proofs.Math.Nat.{add-mul, mul-le-mul_right}
 use Rattle.std.proofs.lemmas.List.{length-take-le}
 use Rattle.cs_types.specs.Room.{RoomState}
 use Rattle.task_table.specs.Table.{Table}
@@ -8,6 +9,7 @@ use Rattle.core_lanes.specs.Queued.{queued_among}
 use Rattle.core_lanes.specs.Lanes.{room_of, Agree, MayTell}
 use Rattle.core_lanes.specs.Numbers.{Numbers, numbers_of}
 use Rattle.core_lanes.proofs.Stays.{same_stays}
+use Rattle.core_lanes.proofs.Counted.{few_queued}
 use Rattle.cpu_hotplug.proofs.Leaving.{enough, nobody_moves}
 use Rattle.cpu_hotplug.proofs.moves.move_off.Goals as goal
 
@@ -73,3 +75,13 @@ move_each-requires g c = record {
   within = c.lowest_other-to.ensures.within;
   tell = may_tell (c.args.core.now, c.args.table.now) c.args.cpu c.count-count.result c.requires.may.agree c.count-count.ensures _ refl c.requires.may.cpu;
 }
+
+-- ---- the comparisons
+
+-- a queue that may move as it is has many tasks
+pub returns-then-may_exchange-clause-counted : goal.returns-then-may_exchange-clause-counted
+returns-then-may_exchange-clause-counted g c =
+    let tasks = c.args.table.now.tasks in
+    let most = g.Q.SiblingQueue.most_compared (length tasks) in
+    let several : 3 ≤ length tasks = omega (arith, c.if-count-ge-MANY.true, c.count-count.ensures, few_queued tasks c.args.cpu) in
+    omega (arith, c.may_exchange.ensures.counted, c.move_queue.ensures.counted, mul-le-mul_right most several, add-mul (length tasks) 1 most)
