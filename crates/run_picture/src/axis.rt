@@ -8,7 +8,7 @@ use crate::piece::{Piece, write_pieces};
 use crate::scale::Scale;
 use crate::unit::{TimeUnit, power_of_ten};
 use cs_outside::{Failed, Sink};
-use run_stretches::RunStretches;
+use run_segments::RunStretches;
 
 /// How many steps an axis has at most.
 const STEPS: u64 = 12;

@@ -2,7 +2,7 @@
 
 use crate::span::Span;
 use cs_types::Cookie;
-use run_stretches::Stretch;
+use run_segments::Stretch;
 use run_times::Doing;
 
 /// Which cookies there were.

@@ -7,7 +7,7 @@ use crate::frame::{LEFT, PAGE_WIDTH};
 use crate::piece::{Piece, write_pieces};
 use crate::scale::Scale;
 use cs_outside::{Failed, Sink};
-use run_stretches::{RunStretches, Window};
+use run_segments::{RunStretches, Window};
 
 /// How marks are drawn, by their classes: b behind the lanes, e exposed, p and q pending, t events, l lanes, i idle, x offline,
 /// f frames, a the axis, n names, r shares, h the head.

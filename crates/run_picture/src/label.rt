@@ -8,7 +8,7 @@ use crate::scale::{Strip, UNIT};
 use cs_outside::{Failed, Sink};
 use cs_types::{Cookie, Pid};
 use itoa::Buffer;
-use run_stretches::Stretch;
+use run_segments::Stretch;
 use run_times::Doing;
 
 /// About how wide a letter is, in thousandths of a unit.

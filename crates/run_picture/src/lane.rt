@@ -11,7 +11,7 @@ use crate::scale::Scale;
 use crate::span::Span;
 use cs_outside::{Failed, Sink};
 use cs_types::Cpu;
-use run_stretches::{RunStretches, Stretch};
+use run_segments::{RunStretches, Stretch};
 
 /// What waits for the next stretch, with it.
 fn with_next(waiting: Option<Gathered>, stretch: &Stretch) -> Gathered {

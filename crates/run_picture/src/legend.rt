@@ -9,7 +9,7 @@ use crate::paint::Paint;
 use crate::piece::{Piece, write_pieces};
 use cs_outside::{Failed, Sink};
 use cs_types::Cookie;
-use run_stretches::{RunStretches, Stretch};
+use run_segments::{RunStretches, Stretch};
 use run_times::Doing;
 
 /// How many cookies the legend can show, in two columns.

@@ -13,7 +13,7 @@ use crate::scale::{Scale, Strip, UNIT, part_of};
 use crate::span::Span;
 use crate::title::{write_gathered_title, write_title};
 use cs_outside::{Failed, Sink};
-use run_stretches::Stretch;
+use run_segments::Stretch;
 use run_times::Doing;
 
 /// How high a lane is, and how high what must be seen is at least, in thousandths of a unit.

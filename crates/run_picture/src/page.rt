@@ -13,7 +13,7 @@ use crate::row::{write_exposure, write_moments, write_pending};
 use crate::scale::Scale;
 use crate::tiles::write_tiles;
 use cs_outside::{Failed, Sink};
-use run_stretches::RunStretches;
+use run_segments::RunStretches;
 
 /// How high the page is of a run in which no time passed.
 const EMPTY_HEIGHT: u64 = 80;

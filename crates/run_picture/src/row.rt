@@ -14,7 +14,7 @@ use crate::span::Span;
 use crate::title::write_span;
 use cs_outside::{Failed, Sink};
 use cs_types::Cpu;
-use run_stretches::{RunStretches, Stretch, Window};
+use run_segments::{RunStretches, Stretch, Window};
 
 /// How high what must be seen is at least, in thousandths of a unit.
 const SEEN: u64 = 2 * UNIT;

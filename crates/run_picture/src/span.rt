@@ -1,6 +1,6 @@
 //! A stretch of time, whatever is so in it.
 
-use run_stretches::{Stretch, Window};
+use run_segments::{Stretch, Window};
 
 /// The time from one moment to another.
 #[derive(Clone, Copy)]

@@ -8,7 +8,7 @@ use crate::piece::{Piece, write_pieces};
 use crate::span::Span;
 use cs_outside::{Failed, Sink};
 use cs_types::Pid;
-use run_stretches::Stretch;
+use run_segments::Stretch;
 use run_times::Doing;
 
 /// Writes what a sibling does, in words.

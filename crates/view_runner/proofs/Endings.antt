@@ -7,7 +7,7 @@ use Rattle.cs_types.specs.Room.{Opening}
 use Rattle.cs_types.specs.History.{History, file, history_of}
 use Rattle.cs_types.specs.Drain.{IsDrained}
 use Rattle.cs_types.proofs.Drains.{drained_alone}
-use Rattle.run_stretches.specs.declared.stretches.Stretch.{Stretch}
+use Rattle.run_segments.specs.declared.segments.Stretch.{Stretch}
 use Rattle.scenario_input.specs.declared.stop.Stop.{Stop}
 use Rattle.scenario_input.specs.declared.stop.Stop.TheVariants.{TooLong}
 use Rattle.scenario_input.specs.declared.stop.Stop.TheVariants as stops
@@ -21,8 +21,8 @@ use Rattle.scenario_runner.specs.Outcomes.{opened_with, IsReplayHistory}
 use Rattle.scenario_runner.specs.Ends.{Used}
 use Rattle.scenario_runner.proofs.Endings.{HasRead, ends_stopped, ends_short}
 use Rattle.scenario_runner.specs.Written.{IsWritten}
-use Rattle.stretch_text.specs.Table.{segments_text}
-use Rattle.stretch_text.specs.Json.{segments_json_text}
+use Rattle.segment_text.specs.Table.{segments_text}
+use Rattle.segment_text.specs.Json.{segments_json_text}
 use Rattle.view_runner.specs.Ends.{IsTaken, AreSegmentsOf, IsTold, EndsAsTold, EndsAsShown}
 use Rattle.view_runner.specs.Written.{WritesTold, MayWriteTold, IsShown, IsFormWritten, MayWriteForm, EndsInForm}
 use Rattle.view_runner.specs.declared.shown.Form.{Form}

@@ -6,11 +6,11 @@ use Rattle.cs_types.specs.History.{History, file}
 use Rattle.cs_types.specs.Drain.{IsDrained}
 use Rattle.cs_outside.specs.Device.{appended, WritesPrefix}
 use Rattle.run_summary.specs.Summaries.{IsSummaryOf}
-use Rattle.run_stretches.specs.declared.stretches.Stretch.{Stretch}
-use Rattle.run_stretches.specs.Stretches.{stretches_of}
+use Rattle.run_segments.specs.declared.segments.Stretch.{Stretch}
+use Rattle.run_segments.specs.Segments.{stretches_of}
 use Rattle.times_report.specs.Summary.{summary_text}
-use Rattle.stretch_text.specs.Table.{segments_text}
-use Rattle.stretch_text.specs.Json.{segments_json_text}
+use Rattle.segment_text.specs.Table.{segments_text}
+use Rattle.segment_text.specs.Json.{segments_json_text}
 use Rattle.scenario_input.specs.declared.status.Status.{Status}
 use Rattle.scenario_input.specs.declared.status.Status.TheVariants.{Done, BadWords, WriteFault}
 use Rattle.view_words.specs.declared.command.Command.{Command}

@@ -5,9 +5,9 @@ use Rattle.cs_types.specs.Room.{Opening}
 use Rattle.cs_types.specs.History.{History, history_of}
 use Rattle.cs_types.specs.Drain.{IsDrained}
 use Rattle.cs_outside.specs.Device.{Rose}
-use Rattle.run_stretches.specs.declared.stretches.Stretch.{Stretch}
-use Rattle.stretch_text.specs.Table.{segments_text}
-use Rattle.stretch_text.specs.Json.{segments_json_text}
+use Rattle.run_segments.specs.declared.segments.Stretch.{Stretch}
+use Rattle.segment_text.specs.Table.{segments_text}
+use Rattle.segment_text.specs.Json.{segments_json_text}
 use Rattle.scenario_input.specs.declared.status.Status.{Status}
 use Rattle.scenario_input.specs.declared.status.Status.TheVariants.{Done, WriteFault, OutOfMemory}
 use Rattle.scenario_runner.specs.Ends.{Used, IsFaultless}

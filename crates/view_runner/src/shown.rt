@@ -2,8 +2,8 @@
 
 ghost use Rattle.std.specs.Prelude.{◌≡◌, ◌+◌, ◌-◌, ◌*◌, ◌^◌, ◌<◌, ◌≤◌, [], length, map, All, vec_len};
 ghost use Rattle.cs_types.specs.Scenario.{IsEvent};
-ghost use Rattle.stretch_text.specs.Table.{segments_text};
-ghost use Rattle.stretch_text.specs.Json.{segments_json_text};
+ghost use Rattle.segment_text.specs.Table.{segments_text};
+ghost use Rattle.segment_text.specs.Json.{segments_json_text};
 ghost use Rattle.scenario_runner.specs.Written.{IsWritten};
 ghost use Rattle.view_runner.specs.Written.{IsShown, IsFormWritten, MayWriteForm, EndsInForm};
 
@@ -11,11 +11,11 @@ use cs_outside::{Guard, Sink, Source};
 use cs_types::{Room, Step};
 use ptrace_check::{FromScenario, Guards};
 use run_picture::picture;
-use run_stretches::{RunStretches, recorded_run};
+use run_segments::{RunStretches, recorded_run};
 use scenario_input::Status;
 use scenario_runner::opened;
+use segment_text::{segments, segments_json};
 use std::alloc::Global;
-use stretch_text::{segments, segments_json};
 
 /// In which form a run is shown over time.
 #[derive(Clone, Copy)]

@@ -1,0 +1,102 @@
+-- Kept: what is kept of a run while it is played.
+use Rattle.std.specs.Prelude.{◌≡◌, ◌≤◌, ◌^◌, ℕ, ◌==◌, ◌&&◌, not, Bool, true, List, ◌∷◌, ◌++◌, [], length, slice_set, slice_index_or, nat_lt, if◌then◌else◌, Option, Some, None, ◌<◌, ◌+◌}
+use Rattle.cs_types.specs.Room.{Opening, RoomState}
+use Rattle.cs_types.specs.History.{History, fold_of}
+use Rattle.run_times.specs.Doing.{has_queued}
+use Rattle.run_times.specs.Times.{Span, spans_of, total_time}
+use Rattle.run_segments.specs.declared.segments.Stretch.{Stretch}
+use Rattle.run_segments.specs.Segments.{is_alike, begins, stretch_in, stretches_in}
+
+-- ---- on which siblings a task is queued
+
+-- a mark for each sibling, and whether the marks are right
+pub record Marks : Type 0 where
+  pub marks : List Bool
+  pub is_known : Bool
+
+-- There is a mark for each sibling of a core with this number of them. The marks say on which a task is queued in this room,
+-- where that is known.
+pub record AreMarksOf (siblings : ℕ) (room : RoomState) (queued : Marks) : Type 0 where
+  pub each : length queued.marks ≡ siblings
+  pub right : queued.is_known ≡ true → (cpu : ℕ) (none : Bool) → cpu < siblings → slice_index_or queued.marks cpu none ≡ has_queued room cpu
+
+-- ---- the stretches
+
+-- the stretches so far, and the place of the last one of each sibling, 0 where it has none yet
+pub record Kept : Type 0 where
+  pub stretches : List Stretch
+  pub places : List ℕ
+
+-- whether a stretch goes on with the next one: that is of the same sibling, begins where this ends, and is alike
+abbrev pub goes_on_with : Stretch → Stretch → Bool
+goes_on_with stretch next = (stretch.cpu == next.cpu) && (stretch.to == next.from) && is_alike stretch next
+
+-- the place of the last stretch of a sibling, and that stretch
+abbrev pub place_of : Kept → ℕ → ℕ
+place_of kept cpu = slice_index_or kept.places cpu 0
+
+abbrev pub last_before : Stretch → Kept → Stretch
+last_before next kept = slice_index_or kept.stretches (place_of kept next.cpu) next
+
+-- whether there is one, and it goes on with the next one
+abbrev pub last_goes_on : Kept → Stretch → Bool
+last_goes_on kept next = nat_lt (place_of kept next.cpu) (length kept.stretches) && goes_on_with (last_before next kept) next
+
+-- it lasts longer
+abbrev pub longer : Stretch → Kept → Kept
+longer next kept =
+    record kept { stretches = slice_set kept.stretches (place_of kept next.cpu) (record (last_before next kept) { to = next.to }) }
+
+-- the next one is one more
+abbrev pub with_one : Stretch → Kept → Kept
+with_one next kept =
+    record { stretches = kept.stretches ++ next ∷ []; places = slice_set kept.places next.cpu (length kept.stretches) }
+
+-- what is kept with the next stretch of a sibling
+abbrev pub kept_with : Stretch → Kept → Kept
+kept_with next kept = if last_goes_on kept next then longer next kept else with_one next kept
+
+-- ---- what is kept of spans
+
+-- spans that follow one another from this clock on, and each takes time
+abbrev pub Follow : ℕ → List Span → Type 0
+Follow clock [] = Unit {0}
+Follow clock (span ∷ spans) = (span.room.clock ≡ clock) × (0 < span.time) × Follow (clock + span.time) spans
+
+-- the last of these spans after another one or none
+abbrev pub last_span : Option Span → List Span → Option Span
+last_span past [] = past
+last_span past (span ∷ spans) = last_span (Some span) spans
+
+-- A stretch stands where it is to: it is of one of these siblings, and lasts no longer than up to the clock of its sibling.
+-- One that lasts up to that is the last one of its sibling, and stands at the place of that.
+pub record IsPlaced (siblings : ℕ) (clock : ℕ → ℕ) (kept : Kept) (place : ℕ) (stretch : Stretch) : Type 0 where
+  pub cpu : stretch.cpu < siblings
+  pub ended : stretch.to ≤ clock stretch.cpu
+  pub last : stretch.to ≡ clock stretch.cpu → place_of kept stretch.cpu ≡ place
+
+-- The stretches stand where they are to, where each sibling is kept up to a clock of its own and a last span, or none. Its
+-- last stretch goes on with what it does in the next span exactly where no stretch of it begins with that.
+pub record ArePlaced (siblings : ℕ) (clock : ℕ → ℕ) (past : ℕ → Option Span) (kept : Kept) : Type 0 where
+  pub each : length kept.places ≡ siblings
+  pub last : (place : ℕ) (none : Stretch) → place < length kept.stretches →
+      IsPlaced siblings clock kept place (slice_index_or kept.stretches place none)
+  pub goes_on : (cpu : ℕ) (next : Span) → cpu < siblings → next.room.clock ≡ clock cpu →
+      last_goes_on kept (stretch_in next cpu) ≡ not (begins (past cpu) next cpu)
+
+-- The stretches of these spans are kept.
+pub record AreKept (siblings : ℕ) (spans : List Span) (kept : Kept) : Type 0 where
+  pub follow : Follow 0 spans
+  pub stretches : kept.stretches ≡ stretches_in siblings None spans
+  pub placed : ArePlaced siblings (λ _. total_time spans) (λ _. last_span None spans) kept
+
+-- The stretches of a history are kept, as long as its clock fits into 64 bits.
+abbrev pub AreStretchesOf : Opening → History → Kept → Type 0
+AreStretchesOf opening history kept =
+    total_time (spans_of opening history) < 2 ^ 64 → AreKept opening.scenario.siblings (spans_of opening history) kept
+
+-- This is kept of a history.
+pub record IsRecordOf (opening : Opening) (history : History) (kept : Kept) (queued : Marks) : Type 0 where
+  pub each : length kept.places ≡ opening.scenario.siblings
+  pub stretches : AreStretchesOf opening history kept
+  pub marks : AreMarksOf opening.scenario.siblings (fold_of opening history) queued

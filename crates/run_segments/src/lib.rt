@@ -1,0 +1,13 @@
+//! What a run shows over time: what each sibling did in each stretch, and when tasks that distrust each other ran side
+//! by side. It is over the contract of a machine alone.
+#![tactic(auto)]
+
+mod kept;
+mod now;
+mod queued;
+mod recorder;
+mod run;
+mod segments;
+
+pub use run::recorded_run;
+pub use segments::{RunStretches, Stretch, Window};

@@ -1,0 +1,84 @@
+//! What a run shows over time, once it is played.
+
+ghost use Rattle.std.specs.Prelude.{◌≡◌};
+
+use cs_types::{Cpu, Pid};
+use run_times::Doing;
+use std::marker::Model;
+
+/// A stretch of time in which a sibling does one thing.
+#[derive(Clone, Copy)]
+pub struct Stretch {
+    /// The clock at its begin, in ns.
+    pub from: u64,
+    /// The clock at its end, in ns, above its begin.
+    pub to: u64,
+    /// The sibling.
+    pub cpu: Cpu,
+    /// The task that it runs, 0 where it runs none.
+    pub pid: Pid,
+    /// What it does.
+    pub doing: Doing,
+    /// Whether it is online and has a pending reschedule.
+    pub pending: bool,
+}
+
+/// A stretch of time in which two online siblings run tasks with distinct cookies.
+#[derive(Clone, Copy)]
+pub struct Window {
+    /// The clock at its begin, in ns.
+    pub from: u64,
+    /// The clock at its end, in ns, above its begin.
+    pub to: u64,
+}
+
+/// What a run shows over time.
+#[derive(Drop)]
+pub struct RunStretches {
+    pub(crate) siblings: u8,
+    pub(crate) total: u64,
+    pub(crate) stretches: Vec<Stretch>,
+    pub(crate) windows: Vec<Window>,
+    pub(crate) moments: Vec<u64>,
+}
+
+// It stands for what each sibling did over time.
+impl Model for RunStretches {
+    ghost use Rattle.std.specs.Prelude.{List};
+    ghost use Rattle.run_segments.specs.declared.segments.Stretch.{Stretch};
+
+    ghost Value = { List Stretch };
+
+    ghost view = { λ run. run.stretches.items };
+}
+
+impl RunStretches {
+    /// The siblings of the core, a count.
+    pub fn siblings(&self) -> u8 {
+        self.siblings
+    }
+
+    /// The clock at the end, in ns.
+    pub fn total(&self) -> u64 {
+        self.total
+    }
+
+    /// The stretches by rising begin, and of one begin by rising sibling. Those of a sibling follow one another without
+    /// a gap, from 0 to the end.
+    pub fn stretches(&self) -> &[Stretch]
+        ensures { result.now ≡ self.now }
+    {
+        self.stretches.as_slice()
+    }
+
+    /// When two online siblings ran tasks with distinct cookies, by rising time. No two of them touch.
+    pub fn windows(&self) -> &[Window] {
+        self.windows.as_slice()
+    }
+
+    /// The clock at the entries at which no time passes, in ns: at all events but an advance. The moments rise, and each
+    /// is there once.
+    pub fn moments(&self) -> &[u64] {
+        self.moments.as_slice()
+    }
+}

@@ -1,0 +1,42 @@
+-- Json: what is told of the stretches of a run, as lines of JSON.
+use Rattle.std.specs.Prelude.{ℕ, Bool, true, false, Option, Some, None, List, [], ◌∷◌, ◌++◌, map, codes, decimal}
+use Rattle.std.specs.List.{flat_map, join_with_byte, zip}
+use Rattle.run_segments.specs.declared.segments.Stretch.{Stretch}
+use Rattle.scenario_text.specs.Words.{Word}
+use Rattle.segment_text.specs.Cells.{columns, state_word, cookie_of, is_forced, pid_of}
+
+-- a word in quotes; no word here needs escapes
+abbrev pub quoted : Word → Word
+quoted word = codes "\"" ++ word ++ codes "\""
+
+-- whether something is so, in a word
+abbrev pub truth_value : Bool → Word
+truth_value true = codes "true"
+truth_value false = codes "false"
+
+-- a number, or `null` where there is none
+abbrev pub number_or_null : Option ℕ → Word
+number_or_null None = codes "null"
+number_or_null (Some number) = decimal number
+
+-- the values of a stretch
+abbrev pub values_of : Stretch → List Word
+values_of stretch =
+    decimal stretch.from ∷ decimal stretch.to ∷ decimal stretch.cpu ∷ quoted (state_word stretch.doing) ∷ number_or_null (cookie_of stretch.doing)
+    ∷ truth_value stretch.pending ∷ truth_value (is_forced stretch.doing) ∷ number_or_null (pid_of stretch.pid) ∷ []
+
+-- a member of an object: its name and its value
+abbrev pub member : Word × Word → List ℕ
+member named = quoted named.0 ++ codes ":" ++ named.1
+
+-- an object with these values, named as the columns are: its members with a comma between two, in braces
+abbrev pub object_of : List Word → List ℕ
+object_of values = codes "{" ++ join_with_byte 44 (map member (zip columns values)) ++ codes "}"
+
+-- the line of a stretch
+abbrev pub object_line : Stretch → List ℕ
+object_line stretch = object_of (values_of stretch) ++ 10 ∷ []
+
+-- the text: a line for each stretch
+abbrev pub segments_json_text : List Stretch → List ℕ
+segments_json_text stretches = flat_map object_line stretches

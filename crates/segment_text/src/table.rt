@@ -1,0 +1,77 @@
+//! The table. Each line is put together without a sink, so that a sink gets it whole.
+
+ghost use Rattle.std.specs.Prelude.{◌≡◌, ◌+◌, ◌≤◌, ◌++◌, OnOk, OnErr, length};
+ghost use Rattle.cs_outside.specs.Device.{appended, Rose, WritesPrefix};
+ghost use Rattle.scenario_text.specs.Words.{answer_word};
+ghost use Rattle.scenario_text.specs.Text.{line_bytes};
+ghost use Rattle.segment_text.specs.Table.{number_cell, row_text, segments_text};
+
+use crate::cells::{cookie_of, is_forced, pid_of, state_word};
+use cs_outside::{Failed, Sink, write_all};
+use run_segments::{RunStretches, Stretch};
+use scenario_text::Line;
+
+/// The names of the columns.
+const HEAD: &str = "from\tto\tsibling\tstate\tcookie\tpending\tforced\tpid\n";
+
+/// Puts a number on the line, or nothing where there is none.
+fn put_number(line: &mut Line, number: Option<u64>)
+    requires { length line.old + 20 ≤ line_bytes }
+    ensures text { line.new ≡ line.old ++ number_cell number }
+    ensures longest { length line.new ≤ length line.old + 20 }
+{
+    if let Some(number) = number {
+        line.number(number);
+    }
+}
+
+/// Puts the answer to a question on the line.
+fn put_answer(line: &mut Line, holds: bool)
+    requires { length line.old + 3 ≤ line_bytes }
+    ensures text { line.new ≡ line.old ++ answer_word holds }
+    ensures longest { length line.new ≤ length line.old + 3 }
+{
+    line.text(if holds { "yes" } else { "no" });
+}
+
+/// The line of a stretch.
+fn row_of(stretch: &Stretch) -> Line
+    ensures { result ≡ row_text stretch.now }
+{
+    let mut line = Line::new();
+    line.number(stretch.from);
+    line.text("\t");
+    line.number(stretch.to);
+    line.text("\t");
+    line.number(stretch.cpu);
+    line.text("\t");
+    line.text(state_word(stretch.doing));
+    line.text("\t");
+    put_number(&mut line, cookie_of(stretch.doing));
+    line.text("\t");
+    put_answer(&mut line, stretch.pending);
+    line.text("\t");
+    put_answer(&mut line, is_forced(stretch.doing));
+    line.text("\t");
+    put_number(&mut line, pid_of(stretch.pid));
+    line.text("\n");
+    line
+}
+
+/// Writes the table of a run's stretches: the names of the columns, and a line for each stretch. The cells of a line are
+/// separated by tabs. Each line goes to the sink in one piece, and again with the rest where the sink took only a part. At
+/// an `Err` the sink has failed, and a prefix of the table is written. It takes no memory.
+pub fn segments<K: Sink>(run: &RunStretches, sink: &mut K) -> Result<(), Failed>
+    ensures ok { OnOk result (K.written sink.new ≡ appended (K.written sink.old) (segments_text run.now)) }
+    ensures prefix { WritesPrefix (K.written sink.old) (segments_text run.now) (K.written sink.new) }
+
+    ensures faultless { OnOk result (K.faults sink.new ≡ K.faults sink.old) }
+    ensures failed { OnErr result (Rose (K.faults sink.old) (K.faults sink.new)) }
+    ensures counted { K.faults sink.old ≤ K.faults sink.new }
+{
+    write_all(sink, HEAD.as_bytes())?;
+    for stretch in run.stretches() {
+        write_all(sink, row_of(stretch).as_bytes())?;
+    }
+    Ok(())
+}
