@@ -2,12 +2,12 @@
 """Compares what `coresched_view picture` draws with what `coresched_view segments` tells of the same run: the examples, random
 scenarios, and two runs of 100,000 steps.
 
-Each picture is valid XML without scripts and without references to anything else. Each stretch that is wide enough for a
+Each picture is valid XML without scripts and without references to anything else. Each segment that is wide enough for a
 mark of its own has it, at its place and with its words. Where a sibling was forced idle, where it had a pending
 reschedule, and where tasks with distinct cookies ran side by side, there is a mark of that. No picture has 2,000,000 bytes.
 
-And no mark is false. One with the words of a stretch stands at its place. One of exposure or of a pending reschedule goes
-from where that begins to where it ends, with no wide gap in between. One of forced idle is a stretch's in which the
+And no mark is false. One with the words of a segment stands at its place. One of exposure or of a pending reschedule goes
+from where that begins to where it ends, with no wide gap in between. One of forced idle is a segment's in which the
 sibling was that, or goes over some narrow ones of which one was. Each of these may begin a unit before its end, so as to be
 seen.
 
@@ -64,14 +64,14 @@ class Run:
         head, *lines = text.decode().splitlines() or ['']
         if head.split('\t') != COLUMNS:
             raise Wrong('the segments have the columns %r' % head)
-        self.stretches = [self.stretch(dict(zip(COLUMNS, line.split('\t')))) for line in lines]
-        self.total = max((it['to'] for it in self.stretches), default=0)
-        self.siblings = 1 + max((it['sibling'] for it in self.stretches), default=0)
-        self.lanes = [[it for it in self.stretches if it['sibling'] == cpu] for cpu in range(self.siblings)]
+        self.segments = [self.segment(dict(zip(COLUMNS, line.split('\t')))) for line in lines]
+        self.total = max((it['to'] for it in self.segments), default=0)
+        self.siblings = 1 + max((it['sibling'] for it in self.segments), default=0)
+        self.lanes = [[it for it in self.segments if it['sibling'] == cpu] for cpu in range(self.siblings)]
         self.grain = max(UNIT, 400 * self.siblings)
 
     @staticmethod
-    def stretch(cells):
+    def segment(cells):
         for column in ('from', 'to', 'sibling', 'cookie', 'pid'):
             cells[column] = int(cells[column] or 0)
         for column in ('pending', 'forced'):
@@ -82,11 +82,11 @@ class Run:
         return LEFT + clock * LANES // self.total
 
     def span(self, it):
-        """From where to where a stretch goes."""
+        """From where to where a segment goes."""
         return self.place(it['from']), self.place(it['to'])
 
     def words(self, it):
-        """The title of a stretch's mark."""
+        """The title of a segment's mark."""
         if it['state'] == 'offline':
             does = 'is offline'
         elif it['state'] == 'running':
@@ -100,7 +100,7 @@ class Run:
 
     def windows(self):
         """When two siblings ran tasks with distinct cookies: pairs of moments, by rising time."""
-        changes = sorted((clock, -side, it['cookie']) for it in self.stretches if it['state'] == 'running'
+        changes = sorted((clock, -side, it['cookie']) for it in self.segments if it['state'] == 'running'
                          for clock, side in ((it['from'], -1), (it['to'], 1)))
         running, since = {}, 0
         for clock, side, cookie in changes:
@@ -205,7 +205,7 @@ def need_closed(text):
 
 def need_marks(picture, run):
     """Raises Wrong where something has no mark."""
-    for it in run.stretches:
+    for it in run.segments:
         begin, end = run.span(it)
         if end - begin > run.grain and (run.words(it), (begin, end)) not in picture.marks[it['sibling']]:
             raise Wrong('no mark of: %s' % run.words(it))
@@ -226,18 +226,18 @@ def need_spans(marks, spans, gap, what):
 
 
 def need_forced(marks, run, cpu):
-    """Raises Wrong where a mark of forced idle on a lane is neither a stretch's nor that of some that are narrow."""
+    """Raises Wrong where a mark of forced idle on a lane is neither a segment's nor that of some that are narrow."""
     lane = run.lanes[cpu]
     of_forced = [run.span(it) for it in lane if it['forced']]
-    alone, forced, stretches = {seen(*it) for it in of_forced}, Spans(of_forced), Spans(map(run.span, lane))
+    alone, forced, segments = {seen(*it) for it in of_forced}, Spans(of_forced), Spans(map(run.span, lane))
     for begin, end in marks:
-        is_column = end - begin <= 2 * run.grain and stretches.are_edges(begin, end) and forced.has_one(begin, end)
+        is_column = end - begin <= 2 * run.grain and segments.are_edges(begin, end) and forced.has_one(begin, end)
         if (begin, end) not in alone and not is_column:
             raise Wrong('a false mark of forced idle on s%d, from %d to %d' % (cpu, begin, end))
 
 
 def need_titles(marks, run, cpu):
-    """Raises Wrong where the words of a mark on a lane are not those of a stretch at its place."""
+    """Raises Wrong where the words of a mark on a lane are not those of a segment at its place."""
     places = {place for _, place in marks}
     drawn = ((it, seen(*run.span(it)) if it['forced'] else run.span(it)) for it in run.lanes[cpu])
     for title, (begin, end) in marks - {(run.words(it), place) for it, place in drawn if place in places}:
@@ -274,7 +274,7 @@ def compare(text, run):
 
 
 def long_run(rng, siblings, steps, most):
-    """A scenario with many short stretches: tasks under cookies that are woken and blocked all the time."""
+    """A scenario with many short segments: tasks under cookies that are woken and blocked all the time."""
     lines = ['coresched 1', 'siblings %d' % siblings, 'limits 256 64 1048576']
     for pid in range(1, 129):
         lines.append('task %d %d %d %d fair:0 %s 0 1 1' % (pid, pid, pid, pid % siblings, '1000 ' * 5 + '1000'))
@@ -306,25 +306,25 @@ def main():
     p.add_argument('--count', type=int, default=200)
     p.add_argument('--seed', type=int, default=1)
     a = p.parse_args()
-    began, drawn, wrong, most, stretches = time.time(), 0, 0, 0, 0
+    began, drawn, wrong, most, segments = time.time(), 0, 0, 0, 0
     for name, data in texts(a.count, a.seed):
-        (status, picture, error), segments = runs.ran([a.program, 'picture'], data), runs.ran([a.program, 'segments'], data)
+        (status, picture, error), table = runs.ran([a.program, 'picture'], data), runs.ran([a.program, 'segments'], data)
         try:
-            if (status, error) != (segments[0], segments[2]) or status not in (0, 2):
-                raise Wrong('ends with %s, and segments with %s' % (status, segments[0]))
+            if (status, error) != (table[0], table[2]) or status not in (0, 2):
+                raise Wrong('ends with %s, and segments with %s' % (status, table[0]))
             if status:
                 continue
             drawn += 1
             most = max(most, len(picture))
-            run = Run(segments[1])
-            stretches += len(run.stretches)
+            run = Run(table[1])
+            segments += len(run.segments)
             compare(picture, run)
         except Wrong as it:
             wrong += 1
             base = runs.kept('pictures-seed%d-%d' % (a.seed, wrong))
             runs.write(base + '.scenario', data)
             print('WRONG: %s, %s.scenario: %s' % (name, base, it))
-    print('pictures, seed %d: %d drawn, of %d stretches, at most %d bytes, %d wrong; %.0f s' % (a.seed, drawn, stretches, most, wrong, time.time() - began))
+    print('pictures, seed %d: %d drawn, of %d segments, at most %d bytes, %d wrong; %.0f s' % (a.seed, drawn, segments, most, wrong, time.time() - began))
     return 1 if wrong else 0
 
 

@@ -1,7 +1,7 @@
 #!/usr/bin/env python3
 """Compares `coresched_view segments` and `segments-json` of the built program with what the rules as reference.py has them
-come to: how each run ends, and every stretch of it. A room of the reference is played, and before each advance it is looked
-at what each sibling does. The stretches of a sibling have to follow one another without a gap, their sums are the times of
+come to: how each run ends, and every segment of it. A room of the reference is played, and before each advance it is looked
+at what each sibling does. The segments of a sibling have to follow one another without a gap, their sums are the times of
 its summary, and the lines of JSON say what the table says. Half of the texts are mutated.
 
 Usage: segments.py                            prints the segments of the scenario on standard input
@@ -32,7 +32,7 @@ def shown(room, sibling):
     return 'idle', None, sibling.pending, False, None
 
 
-def stretches(scenario):
+def segments_of(scenario):
     """The rows of a scenario's replay: a sibling's row goes on while it does the same."""
     room = reference.Room(scenario, check=False)
     rows, last, clock = [], {}, 0
@@ -66,7 +66,7 @@ def ended(data):
     status, _, error = reference.replay(data, check=False)
     if status:
         return status, None, error.replace(b'coresched:', b'coresched_view:', 1)
-    return 0, stretches(reference.read(data)), b''
+    return 0, segments_of(reference.read(data)), b''
 
 
 def has_no_gap(rows, total):
@@ -146,7 +146,7 @@ def main():
             base = runs.kept(name)
             runs.write(base + '.scenario', text)
             print('WRONG: %s.scenario: %s' % (base, ', '.join(found)))
-    print('segments, seed %d: %d texts, %d played with %d stretches, %d wrong; %.0f s' % (a.seed, 2 * a.count, played, told, wrong, time.time() - began))
+    print('segments, seed %d: %d texts, %d played with %d segments, %d wrong; %.0f s' % (a.seed, 2 * a.count, played, told, wrong, time.time() - began))
     return 1 if wrong else 0
 
 

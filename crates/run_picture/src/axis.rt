@@ -8,7 +8,7 @@ use crate::piece::{Piece, write_pieces};
 use crate::scale::Scale;
 use crate::unit::{TimeUnit, power_of_ten};
 use cs_outside::{Failed, Sink};
-use run_segments::RunStretches;
+use run_segments::RunSegments;
 
 /// How many steps an axis has at most.
 const STEPS: u64 = 12;
@@ -84,7 +84,7 @@ fn write_line<K: Sink>(
 pub(crate) fn write_axis<K: Sink>(
     sink: &mut K,
     scale: Scale,
-    run: &RunStretches,
+    run: &RunSegments,
 ) -> Result<(), Failed>
     ensures faultless { OnOk result (K.faults sink.new ≡ K.faults sink.old) }
     ensures failed { OnErr result (Rose (K.faults sink.old) (K.faults sink.new)) }

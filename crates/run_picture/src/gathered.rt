@@ -2,7 +2,7 @@
 
 use crate::span::Span;
 use cs_types::Cookie;
-use run_segments::Stretch;
+use run_segments::Segment;
 use run_times::Doing;
 
 /// Which cookies there were.
@@ -24,10 +24,10 @@ pub(crate) struct Part {
     pub cookies: Cookies,
 }
 
-/// Stretches of one lane that follow one another, at least one, and are drawn as one mark.
+/// Segments of one lane that follow one another, at least one, and are drawn as one mark.
 #[derive(Clone, Copy)]
 pub(crate) struct Gathered {
-    pub first: Stretch,
+    pub first: Segment,
     pub span: Span,
     /// How many there are.
     pub count: u64,
@@ -67,31 +67,31 @@ impl Part {
 }
 
 impl Gathered {
-    /// What one stretch comes to.
-    pub(crate) fn of(stretch: &Stretch) -> Gathered {
+    /// What one segment comes to.
+    pub(crate) fn of(segment: &Segment) -> Gathered {
         let mut gathered = Gathered {
-            first: *stretch,
-            span: Span::of_stretch(stretch),
+            first: *segment,
+            span: Span::of_segment(segment),
             count: 0,
             ran: Part::none(),
             forced: Part::none(),
             offline: 0,
             pending: 0,
         };
-        gathered.add(stretch);
+        gathered.add(segment);
         gathered
     }
 
-    /// Takes in the next stretch of the lane.
-    pub(crate) fn add(&mut self, stretch: &Stretch) {
-        let span = Span::of_stretch(stretch);
+    /// Takes in the next segment of the lane.
+    pub(crate) fn add(&mut self, segment: &Segment) {
+        let span = Span::of_segment(segment);
         let time = span.length();
         self.span = self.span.up_to(span);
         self.count = self.count.saturating_add(1);
-        if stretch.pending {
+        if segment.pending {
             self.pending = self.pending.saturating_add(time);
         }
-        match stretch.doing {
+        match segment.doing {
             Doing::Offline => self.offline = self.offline.saturating_add(time),
             Doing::Runs(cookie) => self.ran.add(time, cookie),
             Doing::Idles => {}

@@ -7,7 +7,7 @@ use crate::frame::{LEFT, PAGE_WIDTH};
 use crate::piece::{Piece, write_pieces};
 use crate::scale::Scale;
 use cs_outside::{Failed, Sink};
-use run_segments::{RunStretches, Window};
+use run_segments::{RunSegments, Window};
 
 /// How marks are drawn, by their classes: b behind the lanes, e exposed, p and q pending, t events, l lanes, i idle, x offline,
 /// f frames, a the axis, n names, r shares, h the head.
@@ -94,7 +94,7 @@ fn write_exposed<K: Sink>(sink: &mut K, scale: Scale, time: u64) -> Result<(), F
 pub(crate) fn write_head<K: Sink>(
     sink: &mut K,
     scale: Scale,
-    run: &RunStretches,
+    run: &RunSegments,
 ) -> Result<(), Failed>
     ensures faultless { OnOk result (K.faults sink.new ≡ K.faults sink.old) }
     ensures failed { OnErr result (Rose (K.faults sink.old) (K.faults sink.new)) }

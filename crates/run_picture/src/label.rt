@@ -8,7 +8,7 @@ use crate::scale::{Strip, UNIT};
 use cs_outside::{Failed, Sink};
 use cs_types::{Cookie, Pid};
 use itoa::Buffer;
-use run_segments::Stretch;
+use run_segments::Segment;
 use run_times::Doing;
 
 /// About how wide a letter is, in thousandths of a unit.
@@ -49,11 +49,11 @@ fn fitting(width: u64, whole: (Label, u64), short: (Label, u64)) -> Label {
     }
 }
 
-/// The label of a stretch whose mark has this width, in thousandths of a unit.
-fn label_of(stretch: &Stretch, width: u64) -> Label {
-    let pid = stretch.pid;
+/// The label of a segment whose mark has this width, in thousandths of a unit.
+fn label_of(segment: &Segment, width: u64) -> Label {
+    let pid = segment.pid;
     let of_pid = digits(u64::from(pid));
-    match stretch.doing {
+    match segment.doing {
         Doing::Runs(cookie) => fitting(
             width,
             (Label::Task(pid, cookie), 14 + of_pid + digits(cookie)),
@@ -107,16 +107,16 @@ fn write_words<K: Sink>(sink: &mut K, label: Label) -> Result<(), Failed>
     }
 }
 
-/// Writes the label of a stretch whose mark stands here.
+/// Writes the label of a segment whose mark stands here.
 pub(crate) fn write_label<K: Sink>(
     sink: &mut K,
-    stretch: &Stretch,
+    segment: &Segment,
     strip: Strip,
 ) -> Result<(), Failed>
     ensures faultless { OnOk result (K.faults sink.new ≡ K.faults sink.old) }
     ensures failed { OnErr result (Rose (K.faults sink.old) (K.faults sink.new)) }
 {
-    let label = label_of(stretch, strip.width);
+    let label = label_of(segment, strip.width);
     if let Label::Nothing = label {
         return Ok(());
     }

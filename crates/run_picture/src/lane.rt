@@ -5,23 +5,23 @@ ghost use Rattle.cs_outside.specs.Device.{Rose};
 
 use crate::frame::{Frame, LANE_HEIGHT, LANES_WIDTH, LEFT, NAMES_END, SHARES_LEFT};
 use crate::gathered::Gathered;
-use crate::mark::{write_gathered, write_stretch};
+use crate::mark::{write_gathered, write_segment};
 use crate::piece::{Piece, write_pieces};
 use crate::scale::Scale;
 use crate::span::Span;
 use cs_outside::{Failed, Sink};
 use cs_types::Cpu;
-use run_segments::{RunStretches, Stretch};
+use run_segments::{RunSegments, Segment};
 
-/// What waits for the next stretch, with it.
-fn with_next(waiting: Option<Gathered>, stretch: &Stretch) -> Gathered {
+/// What waits for the next segment, with it.
+fn with_next(waiting: Option<Gathered>, segment: &Segment) -> Gathered {
     match waiting {
         Some(gathered) => {
             let mut gathered = gathered;
-            gathered.add(stretch);
+            gathered.add(segment);
             gathered
         }
-        None => Gathered::of(stretch),
+        None => Gathered::of(segment),
     }
 }
 
@@ -40,23 +40,23 @@ fn write_waiting<K: Sink>(
     }
 }
 
-/// Writes the next stretch of a lane where it is wide, and gathers it where it is not. It answers what waits for the one
+/// Writes the next segment of a lane where it is wide, and gathers it where it is not. It answers what waits for the one
 /// after it: what is gathered and not yet as wide as a mark.
 fn write_next<K: Sink>(
     sink: &mut K,
     scale: Scale,
     waiting: Option<Gathered>,
-    stretch: &Stretch,
+    segment: &Segment,
 ) -> Result<Option<Gathered>, Failed>
     ensures faultless { OnOk result (K.faults sink.new ≡ K.faults sink.old) }
     ensures failed { OnErr result (Rose (K.faults sink.old) (K.faults sink.new)) }
 {
-    if scale.is_wide(Span::of_stretch(stretch)) {
+    if scale.is_wide(Span::of_segment(segment)) {
         write_waiting(sink, scale, waiting)?;
-        write_stretch(sink, scale, stretch)?;
+        write_segment(sink, scale, segment)?;
         return Ok(None);
     }
-    let gathered = with_next(waiting, stretch);
+    let gathered = with_next(waiting, segment);
     if scale.is_wide(gathered.span) {
         write_gathered(sink, scale, &gathered)?;
         return Ok(None);
@@ -68,27 +68,27 @@ fn write_next<K: Sink>(
 fn write_marks<K: Sink>(
     sink: &mut K,
     scale: Scale,
-    stretches: &[Stretch],
+    segments: &[Segment],
     cpu: Cpu,
 ) -> Result<(), Failed>
     ensures faultless { OnOk result (K.faults sink.new ≡ K.faults sink.old) }
     ensures failed { OnErr result (Rose (K.faults sink.old) (K.faults sink.new)) }
 {
     let mut waiting = None;
-    for stretch in stretches {
-        if stretch.cpu == cpu {
-            waiting = write_next(sink, scale, waiting, stretch)?;
+    for segment in segments {
+        if segment.cpu == cpu {
+            waiting = write_next(sink, scale, waiting, segment)?;
         }
     }
     write_waiting(sink, scale, waiting)
 }
 
-/// All that a sibling did. `None` where it has no stretch.
-fn all_of(stretches: &[Stretch], cpu: Cpu) -> Option<Gathered> {
+/// All that a sibling did. `None` where it has no segment.
+fn all_of(segments: &[Segment], cpu: Cpu) -> Option<Gathered> {
     let mut all = None;
-    for stretch in stretches {
-        if stretch.cpu == cpu {
-            all = Some(with_next(all, stretch));
+    for segment in segments {
+        if segment.cpu == cpu {
+            all = Some(with_next(all, segment));
         }
     }
     all
@@ -137,7 +137,7 @@ fn write_shares<K: Sink>(sink: &mut K, scale: Scale, all: &Gathered) -> Result<(
 pub(crate) fn write_lane<K: Sink>(
     sink: &mut K,
     scale: Scale,
-    run: &RunStretches,
+    run: &RunSegments,
     cpu: Cpu,
 ) -> Result<(), Failed>
     ensures faultless { OnOk result (K.faults sink.new ≡ K.faults sink.old) }
@@ -162,8 +162,8 @@ pub(crate) fn write_lane<K: Sink>(
             Piece::Text("\"/>\n"),
         ],
     )?;
-    write_marks(sink, scale, run.stretches(), cpu)?;
-    if let Some(all) = all_of(run.stretches(), cpu) {
+    write_marks(sink, scale, run.segments(), cpu)?;
+    if let Some(all) = all_of(run.segments(), cpu) {
         write_shares(sink, scale, &all)?;
     }
     write_pieces(sink, &[Piece::Text("</g>\n")])

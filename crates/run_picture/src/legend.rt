@@ -9,7 +9,7 @@ use crate::paint::Paint;
 use crate::piece::{Piece, write_pieces};
 use cs_outside::{Failed, Sink};
 use cs_types::Cookie;
-use run_segments::{RunStretches, Stretch};
+use run_segments::{RunSegments, Segment};
 use run_times::Doing;
 
 /// How many cookies the legend can show, in two columns.
@@ -62,7 +62,7 @@ impl Entry {
             Entry::Events =>
                 "Something happened that takes no time: a task woke, a sibling picked, a cookie changed, and the like.",
             Entry::Several =>
-                "Many short stretches in one mark: filled as far as tasks ran, hatched as far as it was forced idle. The bar above: a reschedule was pending on and off.",
+                "Many short segments in one mark: filled as far as tasks ran, hatched as far as it was forced idle. The bar above: a reschedule was pending on and off.",
             Entry::Pointer => "Rest the pointer on a mark to read what it is, from when to when.",
         }
     }
@@ -91,20 +91,20 @@ impl Entry {
     }
 }
 
-/// The cookie that a stretch shows, 0 for none.
-fn cookie_of(stretch: &Stretch) -> Cookie {
-    match stretch.doing {
+/// The cookie that a segment shows, 0 for none.
+fn cookie_of(segment: &Segment) -> Cookie {
+    match segment.doing {
         Doing::Runs(cookie) => cookie,
         Doing::ForcedIdle(cookie) => cookie,
         Doing::Offline | Doing::Idles => 0,
     }
 }
 
-/// The least cookie above this one that a stretch shows. `None` where there is none.
-fn cookie_above(stretches: &[Stretch], above: Cookie) -> Option<Cookie> {
+/// The least cookie above this one that a segment shows. `None` where there is none.
+fn cookie_above(segments: &[Segment], above: Cookie) -> Option<Cookie> {
     let mut least = None;
-    for stretch in stretches {
-        let cookie = cookie_of(stretch);
+    for segment in segments {
+        let cookie = cookie_of(segment);
         if cookie > above {
             least = match least {
                 Some(other) if other < cookie => Some(other),
@@ -178,14 +178,14 @@ fn write_cookie<K: Sink>(sink: &mut K, top: u64, number: u64, cookie: Cookie) ->
 }
 
 /// Writes the looks of the cookies by rising cookie, as many as the legend can show.
-fn write_cookies<K: Sink>(sink: &mut K, top: u64, stretches: &[Stretch]) -> Result<(), Failed>
+fn write_cookies<K: Sink>(sink: &mut K, top: u64, segments: &[Segment]) -> Result<(), Failed>
     requires { top < 2 ^ 32 }
     ensures faultless { OnOk result (K.faults sink.new ≡ K.faults sink.old) }
     ensures failed { OnErr result (Rose (K.faults sink.old) (K.faults sink.new)) }
 {
     let mut last = 0;
     for number in 0..COOKIES {
-        let Some(cookie) = cookie_above(stretches, last) else {
+        let Some(cookie) = cookie_above(segments, last) else {
             return Ok(());
         };
         write_cookie(sink, top, number, cookie)?;
@@ -195,11 +195,11 @@ fn write_cookies<K: Sink>(sink: &mut K, top: u64, stretches: &[Stretch]) -> Resu
 }
 
 /// Writes the legend. At an `Err` the sink has failed.
-pub(crate) fn write_legend<K: Sink>(sink: &mut K, run: &RunStretches) -> Result<(), Failed>
+pub(crate) fn write_legend<K: Sink>(sink: &mut K, run: &RunSegments) -> Result<(), Failed>
     ensures faultless { OnOk result (K.faults sink.new ≡ K.faults sink.old) }
     ensures failed { OnErr result (Rose (K.faults sink.old) (K.faults sink.new)) }
 {
     let top = Frame::of(run.siblings()).legend();
     write_entries(sink, top)?;
-    write_cookies(sink, top, run.stretches())
+    write_cookies(sink, top, run.segments())
 }

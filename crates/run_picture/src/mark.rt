@@ -13,7 +13,7 @@ use crate::scale::{Scale, Strip, UNIT, part_of};
 use crate::span::Span;
 use crate::title::{write_gathered_title, write_title};
 use cs_outside::{Failed, Sink};
-use run_segments::Stretch;
+use run_segments::Segment;
 use run_times::Doing;
 
 /// How high a lane is, and how high what must be seen is at least, in thousandths of a unit.
@@ -29,7 +29,7 @@ struct Area {
     height: u64,
 }
 
-/// What one stretch is filled with.
+/// What one segment is filled with.
 fn paint_of(doing: Doing) -> Paint {
     match doing {
         Doing::Offline => Paint::Offline,
@@ -39,10 +39,10 @@ fn paint_of(doing: Doing) -> Paint {
     }
 }
 
-/// Where one stretch is drawn. What is forced idle must be seen.
-fn strip_of(scale: Scale, stretch: &Stretch) -> Strip {
-    let span = Span::of_stretch(stretch);
-    match stretch.doing {
+/// Where one segment is drawn. What is forced idle must be seen.
+fn strip_of(scale: Scale, segment: &Segment) -> Strip {
+    let span = Span::of_segment(segment);
+    match segment.doing {
         Doing::ForcedIdle(_) => scale.seen_strip(span),
         Doing::Offline | Doing::Runs(_) | Doing::Idles => scale.strip(span),
     }
@@ -97,29 +97,29 @@ fn write_cross<K: Sink>(sink: &mut K, strip: Strip) -> Result<(), Failed>
     )
 }
 
-/// Writes the mark of one stretch. What is so narrow that nothing of it would show gets none.
-pub(crate) fn write_stretch<K: Sink>(
+/// Writes the mark of one segment. What is so narrow that nothing of it would show gets none.
+pub(crate) fn write_segment<K: Sink>(
     sink: &mut K,
     scale: Scale,
-    stretch: &Stretch,
+    segment: &Segment,
 ) -> Result<(), Failed>
     ensures faultless { OnOk result (K.faults sink.new ≡ K.faults sink.old) }
     ensures failed { OnErr result (Rose (K.faults sink.old) (K.faults sink.new)) }
 {
-    let strip = strip_of(scale, stretch);
+    let strip = strip_of(scale, segment);
     if strip.width == 0 {
         return Ok(());
     }
-    write_rect(sink, strip, paint_of(stretch.doing))?;
-    write_title(sink, stretch)?;
+    write_rect(sink, strip, paint_of(segment.doing))?;
+    write_title(sink, segment)?;
     write_pieces(sink, &[Piece::Text("</rect>\n")])?;
-    if let Doing::Offline = stretch.doing {
+    if let Doing::Offline = segment.doing {
         write_cross(sink, strip)?;
     }
-    write_label(sink, stretch, strip)
+    write_label(sink, segment, strip)
 }
 
-/// Writes a part of a mark of several stretches, where it has a height.
+/// Writes a part of a mark of several segments, where it has a height.
 fn write_part<K: Sink>(sink: &mut K, area: Area, paint: Paint) -> Result<(), Failed>
     ensures faultless { OnOk result (K.faults sink.new ≡ K.faults sink.old) }
     ensures failed { OnErr result (Rose (K.faults sink.old) (K.faults sink.new)) }
@@ -156,7 +156,7 @@ fn forced_height(gathered: &Gathered) -> u64 {
     part_of(gathered.forced.time, gathered.span.length(), HIGH).max(SEEN)
 }
 
-/// Where several stretches are drawn.
+/// Where several segments are drawn.
 fn column_strip(scale: Scale, gathered: &Gathered) -> Strip {
     if gathered.forced.time == 0 {
         scale.strip(gathered.span)
@@ -165,7 +165,7 @@ fn column_strip(scale: Scale, gathered: &Gathered) -> Strip {
     }
 }
 
-/// How a lane's height is shared in a mark of several stretches, in thousandths of a unit.
+/// How a lane's height is shared in a mark of several segments, in thousandths of a unit.
 #[derive(Clone, Copy)]
 struct Shares {
     forced: u64,
@@ -193,7 +193,7 @@ fn shares_of(gathered: &Gathered) -> Shares {
     }
 }
 
-/// Writes the parts of a mark of several stretches: from the top how much of the time the sibling was forced idle and
+/// Writes the parts of a mark of several segments: from the top how much of the time the sibling was forced idle and
 /// offline, and from the foot how much of it a task ran.
 fn write_parts<K: Sink>(sink: &mut K, strip: Strip, gathered: &Gathered) -> Result<(), Failed>
     ensures faultless { OnOk result (K.faults sink.new ≡ K.faults sink.old) }
@@ -226,7 +226,7 @@ fn write_parts<K: Sink>(sink: &mut K, strip: Strip, gathered: &Gathered) -> Resu
     write_part(sink, forced, Paint::of_forced(gathered.forced.cookies))
 }
 
-/// Writes the mark of several stretches. What is so narrow that nothing of it would show gets none.
+/// Writes the mark of several segments. What is so narrow that nothing of it would show gets none.
 fn write_column<K: Sink>(sink: &mut K, scale: Scale, gathered: &Gathered) -> Result<(), Failed>
     ensures faultless { OnOk result (K.faults sink.new ≡ K.faults sink.old) }
     ensures failed { OnErr result (Rose (K.faults sink.old) (K.faults sink.new)) }
@@ -251,7 +251,7 @@ pub(crate) fn write_gathered<K: Sink>(
     ensures failed { OnErr result (Rose (K.faults sink.old) (K.faults sink.new)) }
 {
     if gathered.count == 1 {
-        write_stretch(sink, scale, &gathered.first)
+        write_segment(sink, scale, &gathered.first)
     } else {
         write_column(sink, scale, gathered)
     }

@@ -13,13 +13,13 @@ use crate::row::{write_exposure, write_moments, write_pending};
 use crate::scale::Scale;
 use crate::tiles::write_tiles;
 use cs_outside::{Failed, Sink};
-use run_segments::RunStretches;
+use run_segments::RunSegments;
 
 /// How high the page is of a run in which no time passed.
 const EMPTY_HEIGHT: u64 = 80;
 
 /// Writes the lanes of all siblings.
-fn write_lanes<K: Sink>(sink: &mut K, scale: Scale, run: &RunStretches) -> Result<(), Failed>
+fn write_lanes<K: Sink>(sink: &mut K, scale: Scale, run: &RunSegments) -> Result<(), Failed>
     ensures faultless { OnOk result (K.faults sink.new ≡ K.faults sink.old) }
     ensures failed { OnErr result (Rose (K.faults sink.old) (K.faults sink.new)) }
 {
@@ -30,7 +30,7 @@ fn write_lanes<K: Sink>(sink: &mut K, scale: Scale, run: &RunStretches) -> Resul
 }
 
 /// Writes the page of a run in which no time passed.
-fn write_empty<K: Sink>(sink: &mut K, run: &RunStretches) -> Result<(), Failed>
+fn write_empty<K: Sink>(sink: &mut K, run: &RunSegments) -> Result<(), Failed>
     ensures faultless { OnOk result (K.faults sink.new ≡ K.faults sink.old) }
     ensures failed { OnErr result (Rose (K.faults sink.old) (K.faults sink.new)) }
 {
@@ -55,7 +55,7 @@ fn write_empty<K: Sink>(sink: &mut K, run: &RunStretches) -> Result<(), Failed>
 /// over time. Above the lanes it shows when tasks with distinct cookies ran side by side, and below them when something
 /// happened at which no time passes. A legend says what each mark means. What is too narrow to be seen is joined, so the
 /// size of a picture has a bound, however long the run is. It takes no memory. At an `Err` the sink has failed.
-pub fn picture<K: Sink>(run: &RunStretches, sink: &mut K) -> Result<(), Failed>
+pub fn picture<K: Sink>(run: &RunSegments, sink: &mut K) -> Result<(), Failed>
     ensures faultless { OnOk result (K.faults sink.new ≡ K.faults sink.old) }
     ensures failed { OnErr result (Rose (K.faults sink.old) (K.faults sink.new)) }
 {

@@ -14,7 +14,7 @@ use crate::span::Span;
 use crate::title::write_span;
 use cs_outside::{Failed, Sink};
 use cs_types::Cpu;
-use run_segments::{RunStretches, Stretch, Window};
+use run_segments::{RunSegments, Segment, Window};
 
 /// How high what must be seen is at least, in thousandths of a unit.
 const SEEN: u64 = 2 * UNIT;
@@ -269,16 +269,16 @@ impl Sheet {
     fn write_pending<K: Sink>(
         self,
         sink: &mut K,
-        stretches: &[Stretch],
+        segments: &[Segment],
         cpu: Cpu,
     ) -> Result<(), Failed>
         ensures faultless { OnOk result (K.faults sink.new ≡ K.faults sink.old) }
         ensures failed { OnErr result (Rose (K.faults sink.old) (K.faults sink.new)) }
     {
         let mut waiting = None;
-        for stretch in stretches {
-            if stretch.cpu == cpu && stretch.pending {
-                waiting = self.take(sink, waiting, Span::of_stretch(stretch))?;
+        for segment in segments {
+            if segment.cpu == cpu && segment.pending {
+                waiting = self.take(sink, waiting, Span::of_segment(segment))?;
             }
         }
         self.close(sink, waiting)
@@ -298,7 +298,7 @@ impl Sheet {
 }
 
 /// The sheet of a row in the picture of a run.
-fn sheet_of(run: &RunStretches, row: Row) -> Sheet {
+fn sheet_of(run: &RunSegments, row: Row) -> Sheet {
     Sheet {
         row,
         scale: Scale::of(run.total(), run.siblings()),
@@ -307,7 +307,7 @@ fn sheet_of(run: &RunStretches, row: Row) -> Sheet {
 }
 
 /// Writes when the core was exposed: in a row of its own, and behind the lanes. At an `Err` the sink has failed.
-pub(crate) fn write_exposure<K: Sink>(sink: &mut K, run: &RunStretches) -> Result<(), Failed>
+pub(crate) fn write_exposure<K: Sink>(sink: &mut K, run: &RunSegments) -> Result<(), Failed>
     ensures faultless { OnOk result (K.faults sink.new ≡ K.faults sink.old) }
     ensures failed { OnErr result (Rose (K.faults sink.old) (K.faults sink.new)) }
 {
@@ -333,19 +333,19 @@ pub(crate) fn write_exposure<K: Sink>(sink: &mut K, run: &RunStretches) -> Resul
 }
 
 /// Writes when the siblings had a pending reschedule, over their lanes. At an `Err` the sink has failed.
-pub(crate) fn write_pending<K: Sink>(sink: &mut K, run: &RunStretches) -> Result<(), Failed>
+pub(crate) fn write_pending<K: Sink>(sink: &mut K, run: &RunSegments) -> Result<(), Failed>
     ensures faultless { OnOk result (K.faults sink.new ≡ K.faults sink.old) }
     ensures failed { OnErr result (Rose (K.faults sink.old) (K.faults sink.new)) }
 {
     for cpu in 0..run.siblings() {
         write_pieces(sink, &[Piece::Text("<g class=\"p\">\n")])?;
-        sheet_of(run, Row::Pending(cpu)).write_pending(sink, run.stretches(), cpu)?;
+        sheet_of(run, Row::Pending(cpu)).write_pending(sink, run.segments(), cpu)?;
     }
     Ok(())
 }
 
 /// Writes when something happened at which no time passes, below the lanes. At an `Err` the sink has failed.
-pub(crate) fn write_moments<K: Sink>(sink: &mut K, run: &RunStretches) -> Result<(), Failed>
+pub(crate) fn write_moments<K: Sink>(sink: &mut K, run: &RunSegments) -> Result<(), Failed>
     ensures faultless { OnOk result (K.faults sink.new ≡ K.faults sink.old) }
     ensures failed { OnErr result (Rose (K.faults sink.old) (K.faults sink.new)) }
 {

@@ -20,7 +20,7 @@ pub(crate) struct Strip {
 pub(crate) struct Scale {
     /// All time, in ns.
     total: u64,
-    /// How narrow a stretch may be that still gets a mark of its own.
+    /// How narrow a segment may be that still gets a mark of its own.
     grain: u64,
     ghost small: { grain ≤ 2 ^ 20 },
 }

@@ -1,6 +1,6 @@
-//! A stretch of time, whatever is so in it.
+//! A time from one moment to another, whatever is so in it.
 
-use run_segments::{Stretch, Window};
+use run_segments::{Segment, Window};
 
 /// The time from one moment to another.
 #[derive(Clone, Copy)]
@@ -12,10 +12,10 @@ pub(crate) struct Span {
 }
 
 impl Span {
-    pub(crate) fn of_stretch(stretch: &Stretch) -> Span {
+    pub(crate) fn of_segment(segment: &Segment) -> Span {
         Span {
-            from: stretch.from,
-            to: stretch.to,
+            from: segment.from,
+            to: segment.to,
         }
     }
 

@@ -8,7 +8,7 @@ use crate::piece::{Piece, write_pieces};
 use crate::span::Span;
 use cs_outside::{Failed, Sink};
 use cs_types::Pid;
-use run_segments::Stretch;
+use run_segments::Segment;
 use run_times::Doing;
 
 /// Writes what a sibling does, in words.
@@ -70,18 +70,18 @@ pub(crate) fn write_span<K: Sink>(sink: &mut K, span: Span) -> Result<(), Failed
     )
 }
 
-/// Writes the title of one stretch.
-pub(crate) fn write_title<K: Sink>(sink: &mut K, stretch: &Stretch) -> Result<(), Failed>
+/// Writes the title of one segment.
+pub(crate) fn write_title<K: Sink>(sink: &mut K, segment: &Segment) -> Result<(), Failed>
     ensures faultless { OnOk result (K.faults sink.new ≡ K.faults sink.old) }
     ensures failed { OnErr result (Rose (K.faults sink.old) (K.faults sink.new)) }
 {
-    let cpu = Piece::Number(u64::from(stretch.cpu));
+    let cpu = Piece::Number(u64::from(segment.cpu));
     write_pieces(sink, &[Piece::Text("<title>s"), cpu, Piece::Text(" ")])?;
-    write_doing(sink, stretch.pid, stretch.doing)?;
-    if stretch.pending {
+    write_doing(sink, segment.pid, segment.doing)?;
+    if segment.pending {
         write_pieces(sink, &[Piece::Text(", reschedule pending")])?;
     }
-    write_span(sink, Span::of_stretch(stretch))
+    write_span(sink, Span::of_segment(segment))
 }
 
 /// Writes for how long something was so in a mark, where it was.
@@ -95,7 +95,7 @@ fn write_part<K: Sink>(sink: &mut K, word: &str, time: u64) -> Result<(), Failed
     write_pieces(sink, &[Piece::Text(word), Piece::Time(time)])
 }
 
-/// Writes the title of a mark of several stretches.
+/// Writes the title of a mark of several segments.
 pub(crate) fn write_gathered_title<K: Sink>(sink: &mut K, gathered: &Gathered) -> Result<(), Failed>
     ensures faultless { OnOk result (K.faults sink.new ≡ K.faults sink.old) }
     ensures failed { OnErr result (Rose (K.faults sink.old) (K.faults sink.new)) }
@@ -107,7 +107,7 @@ pub(crate) fn write_gathered_title<K: Sink>(sink: &mut K, gathered: &Gathered) -
             Piece::Number(u64::from(gathered.first.cpu)),
             Piece::Text(", "),
             Piece::Number(gathered.count),
-            Piece::Text(" stretches"),
+            Piece::Text(" segments"),
         ],
     )?;
     write_part(sink, ", ran ", gathered.ran.time)?;

@@ -1,4 +1,4 @@
--- Placed: how what is kept goes on by the next stretch of one sibling.
+-- Placed: how what is kept goes on by the next segment of one sibling.
 use Rattle.std.proofs.Common.{◌≡◌, ◌≢◌, ℕ, zero, suc, ◌+◌, ◌<◌, ◌≤◌, Bool, true, false, cond, ltb, List, [], ◌∷◌, ◌++◌, map, set, get_or, length, refl, sym, ap, ◌∙◌, subst, inl, inr, arith, Option, Some}
 use Rattle.std.specs.Prelude.{not, ◌==◌, ◌&&◌}
 use Rattle.std.proofs.lemmas.Bool.{cond-true, cond-false, and_parts, and_from, and_left, eqb-true, eq-eqb, ne_eqb, lt-ltb, le-ltb, ltb-true, both_ways, false_from_ne_true, cases_eq, cases_lt}
@@ -7,8 +7,8 @@ use Rattle.std.proofs.Math.Seq.{get_or-append_seam}
 use Rattle.run_times.specs.declared.doing.Doing.{Doing}
 use Rattle.run_times.specs.declared.doing.Doing.TheVariants.{Offline, Runs, Idles, ForcedIdle}
 use Rattle.run_times.specs.Times.{Span}
-use Rattle.run_segments.specs.declared.segments.Stretch.{Stretch}
-use Rattle.run_segments.specs.Segments.{is_same, is_alike, begins, stretch_in}
+use Rattle.run_segments.specs.declared.segments.Segment.{Segment}
+use Rattle.run_segments.specs.Segments.{is_same, is_alike, begins, segment_in}
 use Rattle.run_segments.specs.Kept.{Kept, goes_on_with, place_of, last_before, last_goes_on, longer, with_one, kept_with, IsPlaced, ArePlaced}
 
 -- ---- lists
@@ -42,13 +42,13 @@ same_flag false false is = refl
 same_flag true false is = absurd cc
 same_flag false true is = absurd cc
 
--- in two stretches a sibling does the same
-pub record DoesTheSame (one other : Stretch) : Type 0 where
+-- in two segments a sibling does the same
+pub record DoesTheSame (one other : Segment) : Type 0 where
   pub pid : one.pid ≡ other.pid
   pub doing : one.doing ≡ other.doing
   pub pending : one.pending ≡ other.pending
 
-pub does_the_same : (one other : Stretch) → is_alike one other ≡ true → DoesTheSame one other
+pub does_the_same : (one other : Segment) → is_alike one other ≡ true → DoesTheSame one other
 does_the_same one other is =
     let does = and_parts _ (cond one.pending other.pending (not other.pending)) is in
     let runs = and_parts (one.pid == other.pid) (is_same one.doing other.doing) does.0 in
@@ -59,82 +59,82 @@ does_the_same one other is =
     }
 
 -- so they are alike to the same others
-pub alike_after : (one other next : Stretch) → DoesTheSame one other → is_alike one next ≡ is_alike other next
+pub alike_after : (one other next : Segment) → DoesTheSame one other → is_alike one next ≡ is_alike other next
 alike_after one other next same = λ i.
     (same.pid i == next.pid) && is_same (same.doing i) next.doing && cond (same.pending i) next.pending (not next.pending)
 
--- what a stretch has of the next one, where it goes on with that
-pub record IsAlike (one other : Stretch) : Type 0 where
+-- what a segment has of the next one, where it goes on with that
+pub record IsAlike (one other : Segment) : Type 0 where
   pub cpu : one.cpu ≡ other.cpu
   pub to : one.to ≡ other.from
   pub does : DoesTheSame one other
 
-pub alike : (stretch next : Stretch) → goes_on_with stretch next ≡ true → IsAlike stretch next
-alike stretch next is =
-    let ends = and_parts _ (is_alike stretch next) is in
-    let place = and_parts (stretch.cpu == next.cpu) (stretch.to == next.from) ends.0 in
+pub alike : (segment next : Segment) → goes_on_with segment next ≡ true → IsAlike segment next
+alike segment next is =
+    let ends = and_parts _ (is_alike segment next) is in
+    let place = and_parts (segment.cpu == next.cpu) (segment.to == next.from) ends.0 in
     record {
-      cpu = eqb-true stretch.cpu next.cpu place.0;
-      to = eqb-true stretch.to next.from place.1;
-      does = does_the_same stretch next ends.1;
+      cpu = eqb-true segment.cpu next.cpu place.0;
+      to = eqb-true segment.to next.from place.1;
+      does = does_the_same segment next ends.1;
     }
 
--- a stretch of another sibling does not go on
-pub other_sibling : (stretch next : Stretch) → stretch.cpu ≢ next.cpu → goes_on_with stretch next ≡ false
-other_sibling stretch next other =
-    and_left _ (is_alike stretch next) (and_left (stretch.cpu == next.cpu) (stretch.to == next.from) (ne_eqb stretch.cpu next.cpu other))
+-- a segment of another sibling does not go on
+pub other_sibling : (segment next : Segment) → segment.cpu ≢ next.cpu → goes_on_with segment next ≡ false
+other_sibling segment next other =
+    and_left _ (is_alike segment next) (and_left (segment.cpu == next.cpu) (segment.to == next.from) (ne_eqb segment.cpu next.cpu other))
 
--- a stretch that goes on with the next one lasts longer
-abbrev pub moved : Stretch → Stretch → Stretch
-moved next stretch = cond (goes_on_with stretch next) (record stretch { to = next.to }) stretch
+-- a segment that goes on with the next one lasts longer
+abbrev pub moved : Segment → Segment → Segment
+moved next segment = cond (goes_on_with segment next) (record segment { to = next.to }) segment
 
 -- ---- one step
 
 module _ (siblings : ℕ) (clock : ℕ → ℕ) (past : ℕ → Option Span) (kept : Kept) where
   -- only the one at the place of the sibling goes on
-  only_last : (next : Stretch) → ArePlaced siblings clock past kept → next.from ≡ clock next.cpu → (i : ℕ) (d : Stretch) → i < length kept.stretches →
-      goes_on_with (get_or kept.stretches i d) next ≡ true → (place_of kept next.cpu ≡ i) × (last_goes_on kept next ≡ true)
+  only_last : (next : Segment) → ArePlaced siblings clock past kept → next.from ≡ clock next.cpu → (i : ℕ) (d : Segment) → i < length kept.segments →
+      goes_on_with (get_or kept.segments i d) next ≡ true → (place_of kept next.cpu ≡ i) × (last_goes_on kept next ≡ true)
   only_last next placed at i d few goes =
-      let stretch = get_or kept.stretches i d in
-      let is = alike stretch next goes in
+      let segment = get_or kept.segments i d in
+      let is = alike segment next goes in
       let here : place_of kept next.cpu ≡ i =
       ap (place_of kept) (sym is.cpu) ∙ (placed.last i d few).last (is.to ∙ at ∙ ap clock (sym is.cpu)) in
-      let within : place_of kept next.cpu < length kept.stretches = omega (arith, here, few) in (
+      let within : place_of kept next.cpu < length kept.segments = omega (arith, here, few) in (
         here,
-        and_from _ _ (lt-ltb (place_of kept next.cpu) (length kept.stretches) within)
-            (ap (λ (s : Stretch). goes_on_with s next) (ap (λ n. get_or kept.stretches n next) here ∙ get_or_default kept.stretches i next d few) ∙ goes),
+        and_from _ _ (lt-ltb (place_of kept next.cpu) (length kept.segments) within)
+            (ap (λ (s : Segment). goes_on_with s next) (ap (λ n. get_or kept.segments n next) here ∙ get_or_default kept.segments i next d few) ∙ goes),
       )
 
   -- So each that goes on lasts longer, and where none does, the next one is one more.
-  pub kept_with-stretches : (next : Stretch) → ArePlaced siblings clock past kept → next.from ≡ clock next.cpu →
-      (kept_with next kept).stretches ≡ map (moved next) kept.stretches ++ cond (last_goes_on kept next) [] (next ∷ [])
-  kept_with-stretches next placed at = by_test (last_goes_on kept next) refl where
+  pub kept_with-segments : (next : Segment) → ArePlaced siblings clock past kept → next.from ≡ clock next.cpu →
+      (kept_with next kept).segments ≡ map (moved next) kept.segments ++ cond (last_goes_on kept next) [] (next ∷ [])
+  kept_with-segments next placed at = by_test (last_goes_on kept next) refl where
     place : ℕ
     place = place_of kept next.cpu
 
     by_test : (test : Bool) → last_goes_on kept next ≡ test →
-        (cond test (longer next kept) (with_one next kept)).stretches ≡ map (moved next) kept.stretches ++ cond test [] (next ∷ [])
+        (cond test (longer next kept) (with_one next kept)).segments ≡ map (moved next) kept.segments ++ cond test [] (next ∷ [])
     by_test true is =
         let parts = and_parts _ _ is in
-        let within : place < length kept.stretches = ltb-true place (length kept.stretches) parts.0 in
-        set-map (moved next) kept.stretches place next (record (last_before next kept) { to = next.to }) within
+        let within : place < length kept.segments = ltb-true place (length kept.segments) parts.0 in
+        set-map (moved next) kept.segments place next (record (last_before next kept) { to = next.to }) within
         (cond-true (goes_on_with (last_before next kept) next) _ _ parts.1)
-        (λ i d few other. cond-false (goes_on_with (get_or kept.stretches i d) next) _ _
+        (λ i d few other. cond-false (goes_on_with (get_or kept.segments i d) next) _ _
         (false_from_ne_true _ (λ goes. other (sym (only_last next placed at i d few goes).0))))
-        ∙ sym (append-nil (map (moved next) kept.stretches))
+        ∙ sym (append-nil (map (moved next) kept.segments))
     by_test false is =
-        ap (λ (xs : List Stretch). xs ++ next ∷ [])
-        (sym (map-same (moved next) kept.stretches
-        (λ i d few. cond-false (goes_on_with (get_or kept.stretches i d) next) _ _
+        ap (λ (xs : List Segment). xs ++ next ∷ [])
+        (sym (map-same (moved next) kept.segments
+        (λ i d few. cond-false (goes_on_with (get_or kept.segments i d) next) _ _
         (false_from_ne_true _ (λ goes. both_ways (last_goes_on kept next) is (only_last next placed at i d few goes).1)))))
 
--- what goes on with the next stretch of a sibling after this one
-goes_like : (stretch : Stretch) (span next : Span) (cpu : ℕ) → stretch.cpu ≡ cpu → stretch.to ≡ next.room.clock → DoesTheSame stretch (stretch_in span cpu) →
-    goes_on_with stretch (stretch_in next cpu) ≡ not (begins (Some span) next cpu)
-goes_like stretch span next cpu same to does =
-    let after = stretch_in next cpu in
-    by_test (stretch.cpu == cpu) (stretch.to == next.room.clock) (is_alike stretch after) (is_alike (stretch_in span cpu) after)
-    (eq-eqb stretch.cpu cpu same) (eq-eqb stretch.to next.room.clock to) (alike_after stretch (stretch_in span cpu) after does) where
+-- what goes on with the next segment of a sibling after this one
+goes_like : (segment : Segment) (span next : Span) (cpu : ℕ) → segment.cpu ≡ cpu → segment.to ≡ next.room.clock → DoesTheSame segment (segment_in span cpu) →
+    goes_on_with segment (segment_in next cpu) ≡ not (begins (Some span) next cpu)
+goes_like segment span next cpu same to does =
+    let after = segment_in next cpu in
+    by_test (segment.cpu == cpu) (segment.to == next.room.clock) (is_alike segment after) (is_alike (segment_in span cpu) after)
+    (eq-eqb segment.cpu cpu same) (eq-eqb segment.to next.room.clock to) (alike_after segment (segment_in span cpu) after does) where
       twice : (b : Bool) → b ≡ not (not b)
       twice true = refl
       twice false = refl
@@ -144,50 +144,50 @@ goes_like stretch span next cpu same to does =
       by_test true false c d is_a is_b is = absurd cc
       by_test false b c d is_a is_b is = absurd cc
 
--- whether the stretch that stands at the place of the next one's sibling goes on with that
-last_goes_on-at : (kept : Kept) (next : Stretch) (i : ℕ) (stretch : Stretch) → place_of kept next.cpu ≡ i → i < length kept.stretches → get_or kept.stretches i next ≡ stretch →
-    last_goes_on kept next ≡ goes_on_with stretch next
-last_goes_on-at kept next i stretch place few is =
-    let within : place_of kept next.cpu < length kept.stretches = omega (arith, place, few) in
-    ap (λ (b : Bool). b && goes_on_with (last_before next kept) next) (lt-ltb (place_of kept next.cpu) (length kept.stretches) within)
+-- whether the segment that stands at the place of the next one's sibling goes on with that
+last_goes_on-at : (kept : Kept) (next : Segment) (i : ℕ) (segment : Segment) → place_of kept next.cpu ≡ i → i < length kept.segments → get_or kept.segments i next ≡ segment →
+    last_goes_on kept next ≡ goes_on_with segment next
+last_goes_on-at kept next i segment place few is =
+    let within : place_of kept next.cpu < length kept.segments = omega (arith, place, few) in
+    ap (λ (b : Bool). b && goes_on_with (last_before next kept) next) (lt-ltb (place_of kept next.cpu) (length kept.segments) within)
     ∙ first (goes_on_with (last_before next kept) next)
-    ∙ ap (λ (s : Stretch). goes_on_with s next) (ap (λ n. get_or kept.stretches n next) place ∙ is) where
+    ∙ ap (λ (s : Segment). goes_on_with s next) (ap (λ n. get_or kept.segments n next) place ∙ is) where
       first : (b : Bool) → (true && b) ≡ b
       first true = refl
       first false = refl
 
 -- none stands there
-pub none_goes_on : (kept : Kept) (next : Stretch) → length kept.stretches ≤ place_of kept next.cpu → last_goes_on kept next ≡ false
-none_goes_on kept next past = and_left _ _ (le-ltb (place_of kept next.cpu) (length kept.stretches) past)
+pub none_goes_on : (kept : Kept) (next : Segment) → length kept.segments ≤ place_of kept next.cpu → last_goes_on kept next ≡ false
+none_goes_on kept next past = and_left _ _ (le-ltb (place_of kept next.cpu) (length kept.segments) past)
 
--- the sibling of the next stretch has gone on to its end, and the others are where they were
+-- the sibling of the next segment has gone on to its end, and the others are where they were
 pub record GoOn (cpu time : ℕ) (span : Span) (clock clock_after : ℕ → ℕ) (past past_after : ℕ → Option Span) : Type 0 where
   pub to : clock_after cpu ≡ clock cpu + time
   pub took : past_after cpu ≡ Some span
   pub others : (other : ℕ) → other ≢ cpu → (clock_after other ≡ clock other) × (past_after other ≡ past other)
 
-module _ (siblings cpu : ℕ) (span : Span) (clock clock_after : ℕ → ℕ) (past past_after : ℕ → Option Span) (kept : Kept) (next : Stretch)
+module _ (siblings cpu : ℕ) (span : Span) (clock clock_after : ℕ → ℕ) (past past_after : ℕ → Option Span) (kept : Kept) (next : Segment)
     (placed : ArePlaced siblings clock past kept) (below : cpu < siblings) (at : span.room.clock ≡ clock cpu) (lasts : 0 < span.time)
-    (on : GoOn cpu span.time span clock clock_after past past_after) (is : next ≡ stretch_in span cpu) (ends : next.to ≡ clock_after cpu) where
+    (on : GoOn cpu span.time span clock clock_after past past_after) (is : next ≡ segment_in span cpu) (ends : next.to ≡ clock_after cpu) where
   same : next.cpu ≡ cpu
-  same = ap (λ (s : Stretch). s.cpu) is
+  same = ap (λ (s : Segment). s.cpu) is
 
-  -- a stretch that was there, at a place that stays
-  stays : (kept_after : Kept) (i : ℕ) (stretch : Stretch) → IsPlaced siblings clock kept i stretch →
-      (stretch.cpu ≢ cpu → place_of kept_after stretch.cpu ≡ place_of kept stretch.cpu) → IsPlaced siblings clock_after kept_after i stretch
-  stays kept_after i stretch was stay =
-      elim (cases_eq stretch.cpu cpu) [
+  -- a segment that was there, at a place that stays
+  stays : (kept_after : Kept) (i : ℕ) (segment : Segment) → IsPlaced siblings clock kept i segment →
+      (segment.cpu ≢ cpu → place_of kept_after segment.cpu ≡ place_of kept segment.cpu) → IsPlaced siblings clock_after kept_after i segment
+  stays kept_after i segment was stay =
+      elim (cases_eq segment.cpu cpu) [
         | inl here ↦
-            let less : stretch.to < clock_after stretch.cpu = omega (arith, was.ended, ap clock here, ap clock_after here, on.to, lasts) in
+            let less : segment.to < clock_after segment.cpu = omega (arith, was.ended, ap clock here, ap clock_after here, on.to, lasts) in
             record { cpu = was.cpu; ended = omega arith; last = λ late. absurd (omega (arith, less, late)) }
         | inr other ↦
-            let alike = (on.others stretch.cpu other).0 in
+            let alike = (on.others segment.cpu other).0 in
             record { cpu = was.cpu; ended = omega (arith, was.ended, alike); last = λ late. stay other ∙ was.last (late ∙ alike) }
       ]
 
-  -- the stretch with which the sibling has gone on
-  is_last : (kept_after : Kept) (stretch : Stretch) → stretch.cpu ≡ cpu → stretch.to ≡ next.to → IsPlaced siblings clock_after kept_after (place_of kept_after cpu) stretch
-  is_last kept_after stretch here to =
+  -- the segment with which the sibling has gone on
+  is_last : (kept_after : Kept) (segment : Segment) → segment.cpu ≡ cpu → segment.to ≡ next.to → IsPlaced siblings clock_after kept_after (place_of kept_after cpu) segment
+  is_last kept_after segment here to =
       record {
         cpu = omega (arith, here, below);
         ended = omega (arith, to, ends, ap clock_after here);
@@ -196,12 +196,12 @@ module _ (siblings cpu : ℕ) (span : Span) (clock clock_after : ℕ → ℕ) (p
 
   -- what goes on next: at this sibling, and at the others as before
   goes_next : (after : Kept) →
-      ((y : Span) → y.room.clock ≡ clock_after cpu → last_goes_on after (stretch_in y cpu) ≡ not (begins (past_after cpu) y cpu)) →
-      ((c : ℕ) (y : Span) → c ≢ cpu → last_goes_on after (stretch_in y c) ≡ last_goes_on kept (stretch_in y c)) →
-      (c : ℕ) (y : Span) → c < siblings → y.room.clock ≡ clock_after c → last_goes_on after (stretch_in y c) ≡ not (begins (past_after c) y c)
+      ((y : Span) → y.room.clock ≡ clock_after cpu → last_goes_on after (segment_in y cpu) ≡ not (begins (past_after cpu) y cpu)) →
+      ((c : ℕ) (y : Span) → c ≢ cpu → last_goes_on after (segment_in y c) ≡ last_goes_on kept (segment_in y c)) →
+      (c : ℕ) (y : Span) → c < siblings → y.room.clock ≡ clock_after c → last_goes_on after (segment_in y c) ≡ not (begins (past_after c) y c)
   goes_next after goes_here goes_there c y few now =
       elim (cases_eq c cpu) [
-        | inl here ↦ subst (λ (n : ℕ). last_goes_on after (stretch_in y n) ≡ not (begins (past_after n) y n)) (sym here) (goes_here y (now ∙ ap clock_after here))
+        | inl here ↦ subst (λ (n : ℕ). last_goes_on after (segment_in y n) ≡ not (begins (past_after n) y n)) (sym here) (goes_here y (now ∙ ap clock_after here))
         | inr other ↦
             goes_there c y other ∙ placed.goes_on c y few (now ∙ (on.others c other).0)
             ∙ ap (λ (o : Option Span). not (begins o y c)) (sym (on.others c other).1)
@@ -213,59 +213,59 @@ module _ (siblings cpu : ℕ) (span : Span) (clock clock_after : ℕ → ℕ) (p
       record {
         each = placed.each;
         last = λ i d few.
-            let before : i < length kept.stretches = omega (arith, few, length-set kept.stretches place moved_on) in
+            let before : i < length kept.segments = omega (arith, few, length-set kept.segments place moved_on) in
             elim (cases_eq i place) [
               | inl here ↦
-                  subst (IsPlaced siblings clock_after after i) (sym (ap (λ n. get_or (set kept.stretches place moved_on) n d) here ∙ get_or-set_same kept.stretches place moved_on d within))
+                  subst (IsPlaced siblings clock_after after i) (sym (ap (λ n. get_or (set kept.segments place moved_on) n d) here ∙ get_or-set_same kept.segments place moved_on d within))
                   (subst (λ (n : ℕ). IsPlaced siblings clock_after after n moved_on) (sym (here ∙ ap (place_of kept) same)) (is_last after moved_on (was.cpu ∙ same) refl))
               | inr other ↦
-                  subst (IsPlaced siblings clock_after after i) (sym (get_or-set_other kept.stretches place i moved_on d other))
-                  (stays after i (get_or kept.stretches i d) (placed.last i d before) (λ _. refl))
+                  subst (IsPlaced siblings clock_after after i) (sym (get_or-set_other kept.segments place i moved_on d other))
+                  (stays after i (get_or kept.segments i d) (placed.last i d before) (λ _. refl))
             ];
         goes_on = goes_next after goes_here goes_there;
       } where
         place : ℕ
         place = place_of kept next.cpu
 
-        stretch : Stretch
-        stretch = last_before next kept
+        segment : Segment
+        segment = last_before next kept
 
-        moved_on : Stretch
-        moved_on = record stretch { to = next.to }
+        moved_on : Segment
+        moved_on = record segment { to = next.to }
 
         after : Kept
         after = longer next kept
 
-        within : place < length kept.stretches
-        within = ltb-true place (length kept.stretches) (and_parts (ltb place (length kept.stretches)) (goes_on_with stretch next) goes).0
+        within : place < length kept.segments
+        within = ltb-true place (length kept.segments) (and_parts (ltb place (length kept.segments)) (goes_on_with segment next) goes).0
 
-        was : IsAlike stretch next
-        was = alike stretch next (and_parts (ltb place (length kept.stretches)) (goes_on_with stretch next) goes).1
+        was : IsAlike segment next
+        was = alike segment next (and_parts (ltb place (length kept.segments)) (goes_on_with segment next) goes).1
 
-        goes_here : (y : Span) → y.room.clock ≡ clock_after cpu → last_goes_on after (stretch_in y cpu) ≡ not (begins (past_after cpu) y cpu)
+        goes_here : (y : Span) → y.room.clock ≡ clock_after cpu → last_goes_on after (segment_in y cpu) ≡ not (begins (past_after cpu) y cpu)
         goes_here y now =
-            last_goes_on-at after (stretch_in y cpu) place moved_on (ap (place_of kept) (sym same)) (omega (arith, within, length-set kept.stretches place moved_on))
-            (get_or-set_same kept.stretches place moved_on (stretch_in y cpu) within)
+            last_goes_on-at after (segment_in y cpu) place moved_on (ap (place_of kept) (sym same)) (omega (arith, within, length-set kept.segments place moved_on))
+            (get_or-set_same kept.segments place moved_on (segment_in y cpu) within)
             ∙ goes_like moved_on span y cpu (was.cpu ∙ same) (ends ∙ sym now) (subst (DoesTheSame moved_on) is (record { pid = was.does.pid; doing = was.does.doing; pending = was.does.pending }))
             ∙ ap (λ (o : Option Span). not (begins o y cpu)) (sym on.took)
 
-        goes_there : (c : ℕ) (y : Span) → c ≢ cpu → last_goes_on after (stretch_in y c) ≡ last_goes_on kept (stretch_in y c)
+        goes_there : (c : ℕ) (y : Span) → c ≢ cpu → last_goes_on after (segment_in y c) ≡ last_goes_on kept (segment_in y c)
         goes_there c y other =
-            elim (cases_lt (place_of kept c) (length kept.stretches)) [
+            elim (cases_lt (place_of kept c) (length kept.segments)) [
               | inl few ↦
-                  last_goes_on-at after (stretch_in y c) (place_of kept c) _ refl (omega (arith, few, length-set kept.stretches place moved_on)) refl
+                  last_goes_on-at after (segment_in y c) (place_of kept c) _ refl (omega (arith, few, length-set kept.segments place moved_on)) refl
                   ∙ elim (cases_eq (place_of kept c) place) [
                     | inl here ↦
-                        ap (λ (s : Stretch). goes_on_with s (stretch_in y c)) (ap (λ n. get_or (set kept.stretches place moved_on) n (stretch_in y c)) here ∙ get_or-set_same kept.stretches place moved_on (stretch_in y c) within)
-                        ∙ other_sibling moved_on (stretch_in y c) (λ e. other (sym e ∙ was.cpu ∙ same))
-                        ∙ sym (last_goes_on-at kept (stretch_in y c) place stretch here within (get_or_default kept.stretches place (stretch_in y c) next within)
-                        ∙ other_sibling stretch (stretch_in y c) (λ e. other (sym e ∙ was.cpu ∙ same)))
+                        ap (λ (s : Segment). goes_on_with s (segment_in y c)) (ap (λ n. get_or (set kept.segments place moved_on) n (segment_in y c)) here ∙ get_or-set_same kept.segments place moved_on (segment_in y c) within)
+                        ∙ other_sibling moved_on (segment_in y c) (λ e. other (sym e ∙ was.cpu ∙ same))
+                        ∙ sym (last_goes_on-at kept (segment_in y c) place segment here within (get_or_default kept.segments place (segment_in y c) next within)
+                        ∙ other_sibling segment (segment_in y c) (λ e. other (sym e ∙ was.cpu ∙ same)))
                     | inr apart ↦
-                        ap (λ (s : Stretch). goes_on_with s (stretch_in y c)) (get_or-set_other kept.stretches place (place_of kept c) moved_on (stretch_in y c) apart)
-                        ∙ sym (last_goes_on-at kept (stretch_in y c) (place_of kept c) _ refl few refl)
+                        ap (λ (s : Segment). goes_on_with s (segment_in y c)) (get_or-set_other kept.segments place (place_of kept c) moved_on (segment_in y c) apart)
+                        ∙ sym (last_goes_on-at kept (segment_in y c) (place_of kept c) _ refl few refl)
                   ]
               | inr past ↦
-                  none_goes_on after (stretch_in y c) (omega (arith, past, length-set kept.stretches place moved_on)) ∙ sym (none_goes_on kept (stretch_in y c) past)
+                  none_goes_on after (segment_in y c) (omega (arith, past, length-set kept.segments place moved_on)) ∙ sym (none_goes_on kept (segment_in y c) past)
             ]
 
   -- the next one is one more
@@ -276,17 +276,17 @@ module _ (siblings cpu : ℕ) (span : Span) (clock clock_after : ℕ → ℕ) (p
         last = λ i d few.
             elim (cases_lt i count) [
               | inl before ↦
-                  subst (IsPlaced siblings clock_after after i) (sym (get_or_append_left kept.stretches (next ∷ []) d i before))
-                  (stays after i (get_or kept.stretches i d) (placed.last i d before) (λ other. place_there (get_or kept.stretches i d).cpu other))
+                  subst (IsPlaced siblings clock_after after i) (sym (get_or_append_left kept.segments (next ∷ []) d i before))
+                  (stays after i (get_or kept.segments i d) (placed.last i d before) (λ other. place_there (get_or kept.segments i d).cpu other))
               | inr past ↦
-                  let here : i ≡ count = omega (arith, past, few, length-append kept.stretches (next ∷ [])) in
-                  subst (IsPlaced siblings clock_after after i) (sym (ap (λ n. get_or (kept.stretches ++ next ∷ []) n d) here ∙ get_or-append_seam kept.stretches next [] d))
+                  let here : i ≡ count = omega (arith, past, few, length-append kept.segments (next ∷ [])) in
+                  subst (IsPlaced siblings clock_after after i) (sym (ap (λ n. get_or (kept.segments ++ next ∷ []) n d) here ∙ get_or-append_seam kept.segments next [] d))
                   (subst (λ (n : ℕ). IsPlaced siblings clock_after after n next) (place_here ∙ sym here) (is_last after next same refl))
             ];
         goes_on = goes_next after goes_here goes_there;
       } where
         count : ℕ
-        count = length kept.stretches
+        count = length kept.segments
 
         after : Kept
         after = with_one next kept
@@ -298,32 +298,32 @@ module _ (siblings cpu : ℕ) (span : Span) (clock clock_after : ℕ → ℕ) (p
         place_there : (c : ℕ) → c ≢ cpu → place_of after c ≡ place_of kept c
         place_there c other = get_or-set_other kept.places next.cpu c count 0 (λ e. other (e ∙ same))
 
-        goes_here : (y : Span) → y.room.clock ≡ clock_after cpu → last_goes_on after (stretch_in y cpu) ≡ not (begins (past_after cpu) y cpu)
+        goes_here : (y : Span) → y.room.clock ≡ clock_after cpu → last_goes_on after (segment_in y cpu) ≡ not (begins (past_after cpu) y cpu)
         goes_here y now =
-            last_goes_on-at after (stretch_in y cpu) count next place_here (omega (arith, length-append kept.stretches (next ∷ [])))
-            (get_or-append_seam kept.stretches next [] (stretch_in y cpu))
+            last_goes_on-at after (segment_in y cpu) count next place_here (omega (arith, length-append kept.segments (next ∷ [])))
+            (get_or-append_seam kept.segments next [] (segment_in y cpu))
             ∙ goes_like next span y cpu same (ends ∙ sym now) (subst (DoesTheSame next) is (record { pid = refl; doing = refl; pending = refl }))
             ∙ ap (λ (o : Option Span). not (begins o y cpu)) (sym on.took)
 
-        goes_there : (c : ℕ) (y : Span) → c ≢ cpu → last_goes_on after (stretch_in y c) ≡ last_goes_on kept (stretch_in y c)
+        goes_there : (c : ℕ) (y : Span) → c ≢ cpu → last_goes_on after (segment_in y c) ≡ last_goes_on kept (segment_in y c)
         goes_there c y other =
             elim (cases_lt (place_of kept c) count) [
               | inl few ↦
-                  last_goes_on-at after (stretch_in y c) (place_of kept c) _ (place_there c other) (omega (arith, few, length-append kept.stretches (next ∷ [])))
-                  (get_or_append_left kept.stretches (next ∷ []) (stretch_in y c) (place_of kept c) few)
-                  ∙ sym (last_goes_on-at kept (stretch_in y c) (place_of kept c) _ refl few refl)
+                  last_goes_on-at after (segment_in y c) (place_of kept c) _ (place_there c other) (omega (arith, few, length-append kept.segments (next ∷ [])))
+                  (get_or_append_left kept.segments (next ∷ []) (segment_in y c) (place_of kept c) few)
+                  ∙ sym (last_goes_on-at kept (segment_in y c) (place_of kept c) _ refl few refl)
               | inr past ↦
                   elim (cases_eq (place_of kept c) count) [
                     | inl here ↦
-                        last_goes_on-at after (stretch_in y c) count next (place_there c other ∙ here) (omega (arith, length-append kept.stretches (next ∷ [])))
-                        (get_or-append_seam kept.stretches next [] (stretch_in y c))
-                        ∙ other_sibling next (stretch_in y c) (λ e. other (sym e ∙ same))
-                    | inr apart ↦ none_goes_on after (stretch_in y c) (omega (arith, past, apart, place_there c other, length-append kept.stretches (next ∷ [])))
+                        last_goes_on-at after (segment_in y c) count next (place_there c other ∙ here) (omega (arith, length-append kept.segments (next ∷ [])))
+                        (get_or-append_seam kept.segments next [] (segment_in y c))
+                        ∙ other_sibling next (segment_in y c) (λ e. other (sym e ∙ same))
+                    | inr apart ↦ none_goes_on after (segment_in y c) (omega (arith, past, apart, place_there c other, length-append kept.segments (next ∷ [])))
                   ]
-                  ∙ sym (none_goes_on kept (stretch_in y c) past)
+                  ∙ sym (none_goes_on kept (segment_in y c) past)
             ]
 
-  -- Each stretch stands at its place again.
+  -- Each segment stands at its place again.
   pub placed_with : ArePlaced siblings clock_after past_after (kept_with next kept)
   placed_with = by_test (last_goes_on kept next) refl where
     by_test : (test : Bool) → last_goes_on kept next ≡ test → ArePlaced siblings clock_after past_after (cond test (longer next kept) (with_one next kept))
@@ -331,11 +331,11 @@ module _ (siblings cpu : ℕ) (span : Span) (clock clock_after : ℕ → ℕ) (p
     by_test false goes = placed_with_one
 
 -- the places stay as many
-pub length-kept_with : (next : Stretch) (kept : Kept) → length (kept_with next kept).places ≡ length kept.places
+pub length-kept_with : (next : Segment) (kept : Kept) → length (kept_with next kept).places ≡ length kept.places
 length-kept_with next kept = by_test (last_goes_on kept next) where
   by_test : (test : Bool) → length (cond test (longer next kept) (with_one next kept)).places ≡ length kept.places
   by_test true = refl
-  by_test false = length-set kept.places next.cpu (length kept.stretches)
+  by_test false = length-set kept.places next.cpu (length kept.segments)
 
 -- with what is so at each sibling written in another way
 pub placed-alike : (siblings : ℕ) (clock other_clock : ℕ → ℕ) (past other_past : ℕ → Option Span) (kept : Kept) →
@@ -346,7 +346,7 @@ placed-alike siblings clock other_clock past other_past kept alike placed =
       each = placed.each;
       last = λ i d few.
           let was = placed.last i d few in
-          let same = (alike (get_or kept.stretches i d).cpu was.cpu).0 in
+          let same = (alike (get_or kept.segments i d).cpu was.cpu).0 in
           record { cpu = was.cpu; ended = omega (arith, was.ended, same); last = λ late. was.last (late ∙ same) };
       goes_on = λ cpu next below now.
           placed.goes_on cpu next below (now ∙ (alike cpu below).0) ∙ ap (λ (o : Option Span). not (begins o next cpu)) (sym (alike cpu below).1);

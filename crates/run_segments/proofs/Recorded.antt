@@ -20,8 +20,8 @@ use Rattle.run_times.proofs.Clock.{total_time-clock}
 use Rattle.run_times.proofs.Laws.{spans_of-drained}
 use Rattle.run_times.proofs.Spans.{spans_of-advance, spans_of-still, total_time-push}
 use Rattle.run_times.proofs.Shown.{is_on}
-use Rattle.run_segments.specs.Segments.{stretch_in, stretches_of, IsGapless, stretches_on}
-use Rattle.run_segments.specs.Kept.{Kept, Marks, AreMarksOf, AreKept, AreStretchesOf, IsRecordOf}
+use Rattle.run_segments.specs.Segments.{segment_in, segments_of, IsGapless, segments_on}
+use Rattle.run_segments.specs.Kept.{Kept, Marks, AreMarksOf, AreKept, HasSegmentsOf, IsRecordOf}
 use Rattle.run_segments.proofs.Gapless.{gapless_in}
 use Rattle.run_segments.proofs.Placed.{none_goes_on}
 
@@ -61,21 +61,21 @@ has_queued-more opening history entry time cpu is =
 -- ---- what is kept
 
 -- nothing is kept of no entries
-pub none_kept : (opening : Opening) (siblings : ℕ) (kept : Kept) (marks : Marks) → opening.scenario.siblings ≡ siblings → kept ≡ record { stretches = []; places = replicate siblings 0 } →
+pub none_kept : (opening : Opening) (siblings : ℕ) (kept : Kept) (marks : Marks) → opening.scenario.siblings ≡ siblings → kept ≡ record { segments = []; places = replicate siblings 0 } →
     AreMarksOf siblings (fold_of opening []) marks → IsRecordOf opening [] kept marks
 none_kept opening siblings kept marks same none right =
     let each : length kept.places ≡ opening.scenario.siblings = ap (λ (k : Kept). length k.places) none ∙ length-replicate siblings 0 ∙ sym same in
     record {
       each = each;
-      stretches = λ fits.
+      segments = λ fits.
           subst (AreKept opening.scenario.siblings []) (sym none)
           (record {
             follow = tt;
-            stretches = refl;
+            segments = refl;
             placed = record {
               each = length-replicate siblings 0 ∙ sym same;
               last = λ place d few. absurd (omega arith);
-              goes_on = λ cpu next below now. none_goes_on (record { stretches = []; places = replicate siblings 0 }) (stretch_in next cpu) (omega arith);
+              goes_on = λ cpu next below now. none_goes_on (record { segments = []; places = replicate siblings 0 }) (segment_in next cpu) (omega arith);
             };
           });
       marks = subst (λ n. AreMarksOf n (fold_of opening []) marks) (sym same) right;
@@ -97,19 +97,19 @@ kept_more opening history entry time from to before after marks marks_after is l
     ap total_time more ∙ total_time-push spans (fold_of opening history) time ∙ ap (λ n. n + time) so_far in
     record {
       each = each;
-      stretches = λ fits.
+      segments = λ fits.
           let fit : from + time < 2 ^ 64 = omega (arith, fits, total) in
           subst (λ (ss : List Span). AreKept opening.scenario.siblings ss after) (sym more)
-          (goes spans span refl (sym now) (ends fit) lasts so_far (was.stretches (omega (arith, so_far, fit))));
+          (goes spans span refl (sym now) (ends fit) lasts so_far (was.segments (omega (arith, so_far, fit))));
       marks = record {
         each = right.each;
         right = λ known cpu none few. right.right known cpu none few ∙ sym (has_queued-more opening history entry time cpu is);
       };
     }
 
--- what takes no time leaves the stretches as they are
-stretches_still : (opening : Opening) (past now : History) (kept : Kept) → spans_of opening past ≡ spans_of opening now → AreStretchesOf opening past kept → AreStretchesOf opening now kept
-stretches_still opening past now kept same were fits =
+-- what takes no time leaves the segments as they are
+segments_still : (opening : Opening) (past now : History) (kept : Kept) → spans_of opening past ≡ spans_of opening now → HasSegmentsOf opening past kept → HasSegmentsOf opening now kept
+segments_still opening past now kept same were fits =
     subst (λ (spans : List Span). AreKept opening.scenario.siblings spans kept) same (were (omega (arith, fits, ap total_time same)))
 
 -- any other entry
@@ -119,17 +119,17 @@ pub kept_still : (opening : Opening) (history : History) (entry : Entry) (before
 kept_still opening history entry before after marks marks_after still same right was =
     record {
       each = ap (λ (k : Kept). length k.places) same ∙ was.each;
-      stretches = subst (AreStretchesOf opening (history ++ entry ∷ [])) (sym same)
-          (stretches_still opening history (history ++ entry ∷ []) before (sym (spans_of-still opening history entry still)) was.stretches);
+      segments = subst (HasSegmentsOf opening (history ++ entry ∷ [])) (sym same)
+          (segments_still opening history (history ++ entry ∷ []) before (sym (spans_of-still opening history entry still)) was.segments);
       marks = right;
     }
 
 -- the entries of the end
 pub kept_drained : (opening same : Opening) (past now : History) (before after : Kept) → same ≡ opening → IsDrained opening past now → after ≡ before →
-    AreStretchesOf opening past before → AreStretchesOf same now after
+    HasSegmentsOf opening past before → HasSegmentsOf same now after
 kept_drained opening same past now before after alike drained still were =
-    subst (λ (o : Opening). AreStretchesOf o now after) (sym alike)
-    (subst (AreStretchesOf opening now) (sym still) (stretches_still opening past now before (spans_of-drained opening past now drained) were))
+    subst (λ (o : Opening). HasSegmentsOf o now after) (sym alike)
+    (subst (HasSegmentsOf opening now) (sym still) (segments_still opening past now before (spans_of-drained opening past now drained) were))
 
 -- in whichever way the opening and the history are written
 pub kept_alike : (opening same : Opening) (past now : History) (entry : Entry) (kept : Kept) (marks : Marks) → same ≡ opening → now ≡ past ++ entry ∷ [] →
@@ -139,12 +139,12 @@ kept_alike opening same past now entry kept marks alike one_more told =
 
 -- the clock of a room fits, so they are kept
 pub all_kept : (opening : Opening) (history : History) (clock : ℕ) (kept : Kept) → clock ≡ (fold_of opening history).clock → clock < 2 ^ 64 →
-    AreStretchesOf opening history kept → AreKept opening.scenario.siblings (spans_of opening history) kept
+    HasSegmentsOf opening history kept → AreKept opening.scenario.siblings (spans_of opening history) kept
 all_kept opening history clock kept now fits are = are (omega (arith, fits, now, total_time-clock opening history))
 
 -- without a gap
 pub gapless_of : (opening : Opening) (history : History) (kept : Kept) (cpu : ℕ) → cpu < opening.scenario.siblings → AreKept opening.scenario.siblings (spans_of opening history) kept →
-    IsGapless 0 (stretches_on cpu (stretches_of opening history)) (fold_of opening history).clock
+    IsGapless 0 (segments_on cpu (segments_of opening history)) (fold_of opening history).clock
 gapless_of opening history kept cpu below are =
-    subst (IsGapless 0 (stretches_on cpu (stretches_of opening history))) (total_time-clock opening history)
+    subst (IsGapless 0 (segments_on cpu (segments_of opening history))) (total_time-clock opening history)
     (gapless_in opening.scenario.siblings cpu below (spans_of opening history) are.follow)

@@ -11,11 +11,11 @@ use Rattle.cs_types.specs.Room.{RoomState}
 use Rattle.run_times.specs.declared.doing.Doing.{Doing}
 use Rattle.run_times.specs.Doing.{doing_of, is_pending}
 use Rattle.run_times.specs.Times.{Span, total_time}
-use Rattle.run_segments.specs.declared.segments.Stretch.{Stretch}
-use Rattle.run_segments.specs.Segments.{pid_run, begins, stretch_in}
+use Rattle.run_segments.specs.declared.segments.Segment.{Segment}
+use Rattle.run_segments.specs.Segments.{pid_run, begins, segment_in}
 use Rattle.run_segments.specs.Kept.{Kept, goes_on_with, last_goes_on, kept_with, Follow, last_span, ArePlaced, AreKept}
-use Rattle.run_segments.proofs.Extended.{extended, stretches_in-push}
-use Rattle.run_segments.proofs.Placed.{map-same, alike, other_sibling, moved, kept_with-stretches, placed_with, placed-alike}
+use Rattle.run_segments.proofs.Extended.{extended, segments_in-push}
+use Rattle.run_segments.proofs.Placed.{map-same, alike, other_sibling, moved, kept_with-segments, placed_with, placed-alike}
 
 -- up to which clock a sibling is kept, where those below a number have gone on over a span, and its last span
 abbrev pub clock_at : Span → ℕ → ℕ → ℕ
@@ -24,24 +24,24 @@ clock_at span count cpu = cond (ltb cpu count) (span.room.clock + span.time) spa
 abbrev pub past_at : Option Span → Span → ℕ → ℕ → Option Span
 past_at last span count cpu = cond (ltb cpu count) (Some span) last
 
--- a stretch then
-abbrev pub extended_below : Span → ℕ → Stretch → Stretch
-extended_below span count stretch = cond (ltb stretch.cpu count) (extended span stretch) stretch
+-- a segment then
+abbrev pub extended_below : Span → ℕ → Segment → Segment
+extended_below span count segment = cond (ltb segment.cpu count) (extended span segment) segment
 
 -- what is kept then
-pub record IsAt (siblings : ℕ) (last : Option Span) (span : Span) (old : List Stretch) (count : ℕ) (kept : Kept) : Type 0 where
-  pub stretches : kept.stretches ≡ map (extended_below span count) old ++ map (stretch_in span) (filter (begins last span) (range_with_len 0 count))
+pub record IsAt (siblings : ℕ) (last : Option Span) (span : Span) (old : List Segment) (count : ℕ) (kept : Kept) : Type 0 where
+  pub segments : kept.segments ≡ map (extended_below span count) old ++ map (segment_in span) (filter (begins last span) (range_with_len 0 count))
   pub placed : ArePlaced siblings (clock_at span count) (past_at last span count) kept
 
 -- ---- at the begin
 
 pub at_start : (siblings : ℕ) (spans : List Span) (span : Span) (kept : Kept) → span.room.clock ≡ total_time spans → AreKept siblings spans kept →
-    IsAt siblings (last_span None spans) span kept.stretches 0 kept
+    IsAt siblings (last_span None spans) span kept.segments 0 kept
 at_start siblings spans span kept now are =
     record {
-      stretches =
-          sym (append-nil (map (extended_below span 0) kept.stretches)
-          ∙ map-same (extended_below span 0) kept.stretches (λ i d few. let s = get_or kept.stretches i d in cond-false (ltb s.cpu 0) (extended span s) s (le-ltb s.cpu 0 (omega arith))));
+      segments =
+          sym (append-nil (map (extended_below span 0) kept.segments)
+          ∙ map-same (extended_below span 0) kept.segments (λ i d few. let s = get_or kept.segments i d in cond-false (ltb s.cpu 0) (extended span s) s (le-ltb s.cpu 0 (omega arith))));
       placed =
           placed-alike siblings (λ _. total_time spans) (clock_at span 0) (λ _. last_span None spans) (past_at (last_span None spans) span 0) kept
           (λ cpu below. (
@@ -52,12 +52,12 @@ at_start siblings spans span kept now are =
 
 -- ---- at the next sibling
 
--- the stretch that a sibling begins with a span
+-- the segment that a sibling begins with a span
 pub begun_is : (span : Span) (room : RoomState) (cpu from to pid : ℕ) (doing : Doing) (pending : Bool) → span.room ≡ room → span.room.clock ≡ from → from + span.time ≡ to →
     pid ≡ pid_run room cpu → doing ≡ doing_of room cpu → pending ≡ is_pending room cpu →
-    record { from = from; to = to; cpu = cpu; pid = pid; doing = doing; pending = pending } ≡ stretch_in span cpu
+    record { from = from; to = to; cpu = cpu; pid = pid; doing = doing; pending = pending } ≡ segment_in span cpu
 begun_is span room cpu from to pid doing pending same now ends runs does waits =
-    let to_is : to ≡ (stretch_in span cpu).to = omega (arith, ends, now) in
+    let to_is : to ≡ (segment_in span cpu).to = omega (arith, ends, now) in
     let pid_is : pid ≡ pid_run span.room cpu = runs ∙ ap (λ (r : RoomState). pid_run r cpu) (sym same) in
     let doing_is : doing ≡ doing_of span.room cpu = does ∙ ap (λ (r : RoomState). doing_of r cpu) (sym same) in
     let pending_is : pending ≡ is_pending span.room cpu = waits ∙ ap (λ (r : RoomState). is_pending r cpu) (sym same) in
@@ -70,40 +70,40 @@ same_below cpu count other =
       | inr more ↦ le-ltb cpu (count + 1) (omega (arith, more, other)) ∙ sym (le-ltb cpu count more)
     ]
 
-cpu-extended : (span : Span) (stretch : Stretch) → (extended span stretch).cpu ≡ stretch.cpu
-cpu-extended span stretch =
-    cond_both (goes_on_with stretch (stretch_in span stretch.cpu)) (record stretch { to = span.room.clock + span.time }) stretch (λ (s : Stretch). s.cpu ≡ stretch.cpu) (λ _. refl) (λ _. refl)
+cpu-extended : (span : Span) (segment : Segment) → (extended span segment).cpu ≡ segment.cpu
+cpu-extended span segment =
+    cond_both (goes_on_with segment (segment_in span segment.cpu)) (record segment { to = span.room.clock + span.time }) segment (λ (s : Segment). s.cpu ≡ segment.cpu) (λ _. refl) (λ _. refl)
 
-moved_below : (span : Span) (count : ℕ) (stretch : Stretch) → moved (stretch_in span count) (extended_below span count stretch) ≡ extended_below span (count + 1) stretch
-moved_below span count stretch =
-    let next = stretch_in span count in
-    elim (cases_order stretch.cpu count) [
+moved_below : (span : Span) (count : ℕ) (segment : Segment) → moved (segment_in span count) (extended_below span count segment) ≡ extended_below span (count + 1) segment
+moved_below span count segment =
+    let next = segment_in span count in
+    elim (cases_order segment.cpu count) [
       | inl here ↦
-          ap (moved next) (cond-false (ltb stretch.cpu count) (extended span stretch) stretch (le-ltb stretch.cpu count (omega (arith, here))))
-          ∙ ap (λ n. cond (goes_on_with stretch (stretch_in span n)) (record stretch { to = (stretch_in span n).to }) stretch) (sym here)
-          ∙ sym (cond-true (ltb stretch.cpu (count + 1)) (extended span stretch) stretch (lt-ltb stretch.cpu (count + 1) (omega (arith, here))))
+          ap (moved next) (cond-false (ltb segment.cpu count) (extended span segment) segment (le-ltb segment.cpu count (omega (arith, here))))
+          ∙ ap (λ n. cond (goes_on_with segment (segment_in span n)) (record segment { to = (segment_in span n).to }) segment) (sym here)
+          ∙ sym (cond-true (ltb segment.cpu (count + 1)) (extended span segment) segment (lt-ltb segment.cpu (count + 1) (omega (arith, here))))
       | inr (inl less) ↦
-          ap (moved next) (cond-true (ltb stretch.cpu count) (extended span stretch) stretch (lt-ltb stretch.cpu count less))
-          ∙ cond-false (goes_on_with (extended span stretch) next) _ _ (other_sibling (extended span stretch) next (λ same. absurd (omega (arith, less, same, cpu-extended span stretch))))
-          ∙ sym (cond-true (ltb stretch.cpu (count + 1)) (extended span stretch) stretch (lt-ltb stretch.cpu (count + 1) (omega (arith, less))))
+          ap (moved next) (cond-true (ltb segment.cpu count) (extended span segment) segment (lt-ltb segment.cpu count less))
+          ∙ cond-false (goes_on_with (extended span segment) next) _ _ (other_sibling (extended span segment) next (λ same. absurd (omega (arith, less, same, cpu-extended span segment))))
+          ∙ sym (cond-true (ltb segment.cpu (count + 1)) (extended span segment) segment (lt-ltb segment.cpu (count + 1) (omega (arith, less))))
       | inr (inr more) ↦
-          ap (moved next) (cond-false (ltb stretch.cpu count) (extended span stretch) stretch (le-ltb stretch.cpu count (omega (arith, more))))
-          ∙ cond-false (goes_on_with stretch next) _ _ (other_sibling stretch next (λ same. absurd (omega (arith, more, same))))
-          ∙ sym (cond-false (ltb stretch.cpu (count + 1)) (extended span stretch) stretch (le-ltb stretch.cpu (count + 1) (omega (arith, more))))
+          ap (moved next) (cond-false (ltb segment.cpu count) (extended span segment) segment (le-ltb segment.cpu count (omega (arith, more))))
+          ∙ cond-false (goes_on_with segment next) _ _ (other_sibling segment next (λ same. absurd (omega (arith, more, same))))
+          ∙ sym (cond-false (ltb segment.cpu (count + 1)) (extended span segment) segment (le-ltb segment.cpu (count + 1) (omega (arith, more))))
     ]
 
-moved_each : (span : Span) (count : ℕ) (old : List Stretch) → map (moved (stretch_in span count)) (map (extended_below span count) old) ≡ map (extended_below span (count + 1)) old
+moved_each : (span : Span) (count : ℕ) (old : List Segment) → map (moved (segment_in span count)) (map (extended_below span count) old) ≡ map (extended_below span (count + 1)) old
 moved_each span count [] = refl
-moved_each span count (stretch ∷ old) = cc (moved_below span count stretch, moved_each span count old)
+moved_each span count (segment ∷ old) = cc (moved_below span count segment, moved_each span count old)
 
--- the stretches that begin with the span are there already
-moved_new : (span : Span) (count : ℕ) (cpus : List ℕ) → 0 < span.time → map (moved (stretch_in span count)) (map (stretch_in span) cpus) ≡ map (stretch_in span) cpus
+-- the segments that begin with the span are there already
+moved_new : (span : Span) (count : ℕ) (cpus : List ℕ) → 0 < span.time → map (moved (segment_in span count)) (map (segment_in span) cpus) ≡ map (segment_in span) cpus
 moved_new span count [] lasts = refl
 moved_new span count (cpu ∷ cpus) lasts =
-    let next = stretch_in span count in
-    let still : moved next (stretch_in span cpu) ≡ stretch_in span cpu =
-    cond-false (goes_on_with (stretch_in span cpu) next) _ _
-    (false_from_ne_true _ (λ goes. absurd (omega (arith, lasts, (alike (stretch_in span cpu) next goes).to)))) in
+    let next = segment_in span count in
+    let still : moved next (segment_in span cpu) ≡ segment_in span cpu =
+    cond-false (goes_on_with (segment_in span cpu) next) _ _
+    (false_from_ne_true _ (λ goes. absurd (omega (arith, lasts, (alike (segment_in span cpu) next goes).to)))) in
     cc (still, moved_new span count cpus lasts)
 
 pub range-more : (n : ℕ) → range_with_len 0 (n + 1) ≡ range_with_len 0 n ++ n ∷ []
@@ -114,32 +114,32 @@ range-more n =
       same : ℕ → ℕ
       same = λ k. k
 
-begun-more : (last : Option Span) (span : Span) (count : ℕ) → map (stretch_in span) (filter (begins last span) (range_with_len 0 (count + 1)))
-    ≡ map (stretch_in span) (filter (begins last span) (range_with_len 0 count)) ++ cond (begins last span count) (stretch_in span count ∷ []) []
+begun-more : (last : Option Span) (span : Span) (count : ℕ) → map (segment_in span) (filter (begins last span) (range_with_len 0 (count + 1)))
+    ≡ map (segment_in span) (filter (begins last span) (range_with_len 0 count)) ++ cond (begins last span count) (segment_in span count ∷ []) []
 begun-more last span count =
-    ap (λ (cpus : List ℕ). map (stretch_in span) (filter (begins last span) cpus)) (range-more count)
-    ∙ ap (map (stretch_in span)) (filter-append (begins last span) (range_with_len 0 count) (count ∷ []))
-    ∙ map-append (stretch_in span) (filter (begins last span) (range_with_len 0 count)) (cond (begins last span count) (count ∷ []) [])
-    ∙ ap (λ (new : List Stretch). map (stretch_in span) (filter (begins last span) (range_with_len 0 count)) ++ new) (by_test (begins last span count)) where
-      by_test : (test : Bool) → map (stretch_in span) (cond test (count ∷ []) []) ≡ cond test (stretch_in span count ∷ []) []
+    ap (λ (cpus : List ℕ). map (segment_in span) (filter (begins last span) cpus)) (range-more count)
+    ∙ ap (map (segment_in span)) (filter-append (begins last span) (range_with_len 0 count) (count ∷ []))
+    ∙ map-append (segment_in span) (filter (begins last span) (range_with_len 0 count)) (cond (begins last span count) (count ∷ []) [])
+    ∙ ap (λ (new : List Segment). map (segment_in span) (filter (begins last span) (range_with_len 0 count)) ++ new) (by_test (begins last span count)) where
+      by_test : (test : Bool) → map (segment_in span) (cond test (count ∷ []) []) ≡ cond test (segment_in span count ∷ []) []
       by_test true = refl
       by_test false = refl
 
-pub at_next : (siblings : ℕ) (last : Option Span) (span : Span) (old : List Stretch) (count : ℕ) (kept : Kept) → count < siblings → 0 < span.time →
-    IsAt siblings last span old count kept → IsAt siblings last span old (count + 1) (kept_with (stretch_in span count) kept)
+pub at_next : (siblings : ℕ) (last : Option Span) (span : Span) (old : List Segment) (count : ℕ) (kept : Kept) → count < siblings → 0 < span.time →
+    IsAt siblings last span old count kept → IsAt siblings last span old (count + 1) (kept_with (segment_in span count) kept)
 at_next siblings last span old count kept below lasts so_far =
     record {
-      stretches =
-          kept_with-stretches siblings (clock_at span count) (past_at last span count) kept next so_far.placed (sym here)
-          ∙ ap (λ (xs : List Stretch). map (moved next) xs ++ cond (last_goes_on kept next) [] (next ∷ [])) so_far.stretches
-          ∙ ap (λ (xs : List Stretch). xs ++ cond (last_goes_on kept next) [] (next ∷ []))
+      segments =
+          kept_with-segments siblings (clock_at span count) (past_at last span count) kept next so_far.placed (sym here)
+          ∙ ap (λ (xs : List Segment). map (moved next) xs ++ cond (last_goes_on kept next) [] (next ∷ [])) so_far.segments
+          ∙ ap (λ (xs : List Segment). xs ++ cond (last_goes_on kept next) [] (next ∷ []))
           (map-append (moved next) (map (extended_below span count) old) begun
-          ∙ ap (λ (xs : List Stretch). xs ++ map (moved next) begun) (moved_each span count old)
-          ∙ ap (λ (xs : List Stretch). map (extended_below span (count + 1)) old ++ xs) (moved_new span count (filter (begins last span) (range_with_len 0 count)) lasts))
+          ∙ ap (λ (xs : List Segment). xs ++ map (moved next) begun) (moved_each span count old)
+          ∙ ap (λ (xs : List Segment). map (extended_below span (count + 1)) old ++ xs) (moved_new span count (filter (begins last span) (range_with_len 0 count)) lasts))
           ∙ append_assoc (map (extended_below span (count + 1)) old) begun (cond (last_goes_on kept next) [] (next ∷ []))
-          ∙ ap (λ (xs : List Stretch). map (extended_below span (count + 1)) old ++ xs)
+          ∙ ap (λ (xs : List Segment). map (extended_below span (count + 1)) old ++ xs)
           (ap (λ (b : Bool). begun ++ cond b [] (next ∷ [])) (so_far.placed.goes_on count span below (sym here) ∙ ap (λ (o : Option Span). not (begins o span count)) (cond-false (ltb count count) (Some span) last (le-ltb count count (omega arith))))
-          ∙ ap (λ (xs : List Stretch). begun ++ xs) (turned (begins last span count))
+          ∙ ap (λ (xs : List Segment). begun ++ xs) (turned (begins last span count))
           ∙ sym (begun-more last span count));
       placed =
           placed_with siblings count span (clock_at span count) (clock_at span (count + 1)) (past_at last span count) (past_at last span (count + 1)) kept next
@@ -153,11 +153,11 @@ at_next siblings last span old count kept below lasts so_far =
             );
           }) refl (sym there);
     } where
-      next : Stretch
-      next = stretch_in span count
+      next : Segment
+      next = segment_in span count
 
-      begun : List Stretch
-      begun = map (stretch_in span) (filter (begins last span) (range_with_len 0 count))
+      begun : List Segment
+      begun = map (segment_in span) (filter (begins last span) (range_with_len 0 count))
 
       here : clock_at span count count ≡ span.room.clock
       here = cond-false (ltb count count) (span.room.clock + span.time) span.room.clock (le-ltb count count (omega arith))
@@ -181,16 +181,16 @@ last-push past [] span = refl
 last-push past (first ∷ spans) span = last-push (Some first) spans span
 
 pub at_end : (siblings : ℕ) (spans : List Span) (span : Span) (before kept : Kept) → span.room.clock ≡ total_time spans → 0 < span.time →
-    AreKept siblings spans before → IsAt siblings (last_span None spans) span before.stretches siblings kept → AreKept siblings (spans ++ span ∷ []) kept
+    AreKept siblings spans before → IsAt siblings (last_span None spans) span before.segments siblings kept → AreKept siblings (spans ++ span ∷ []) kept
 at_end siblings spans span before kept now lasts are ended =
     let last = last_span None spans in
-    let begun = map (stretch_in span) (filter (begins last span) (range_with_len 0 siblings)) in
+    let begun = map (segment_in span) (filter (begins last span) (range_with_len 0 siblings)) in
     record {
       follow = follow-push 0 spans span are.follow (omega (arith, now)) lasts;
-      stretches =
-          ended.stretches
-          ∙ ap (λ (xs : List Stretch). xs ++ begun) (each_extended before.stretches (λ i d few. (are.placed.last i d few).cpu) ∙ ap (map (extended span)) are.stretches)
-          ∙ sym (stretches_in-push siblings 0 None spans span are.follow (omega (arith, now)));
+      segments =
+          ended.segments
+          ∙ ap (λ (xs : List Segment). xs ++ begun) (each_extended before.segments (λ i d few. (are.placed.last i d few).cpu) ∙ ap (map (extended span)) are.segments)
+          ∙ sym (segments_in-push siblings 0 None spans span are.follow (omega (arith, now)));
       placed =
           placed-alike siblings (clock_at span siblings) (λ _. total_time (spans ++ span ∷ [])) (past_at last span siblings) (λ _. last_span None (spans ++ span ∷ [])) kept
           (λ cpu below. (
@@ -199,7 +199,7 @@ at_end siblings spans span before kept now lasts are ended =
             last-push None spans span ∙ sym (cond-true (ltb cpu siblings) (Some span) last (lt-ltb cpu siblings below)),
           )) ended.placed;
     } where
-      each_extended : (xs : List Stretch) → ((i : ℕ) (d : Stretch) → i < length xs → (get_or xs i d).cpu < siblings) → map (extended_below span siblings) xs ≡ map (extended span) xs
+      each_extended : (xs : List Segment) → ((i : ℕ) (d : Segment) → i < length xs → (get_or xs i d).cpu < siblings) → map (extended_below span siblings) xs ≡ map (extended span) xs
       each_extended [] below = refl
       each_extended (x ∷ xs) below =
           cc (cond-true (ltb x.cpu siblings) (extended span x) x (lt-ltb x.cpu siblings (below 0 x (omega arith))), each_extended xs (λ i d few. below (suc i) d (omega arith)))

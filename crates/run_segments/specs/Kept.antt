@@ -4,8 +4,8 @@ use Rattle.cs_types.specs.Room.{Opening, RoomState}
 use Rattle.cs_types.specs.History.{History, fold_of}
 use Rattle.run_times.specs.Doing.{has_queued}
 use Rattle.run_times.specs.Times.{Span, spans_of, total_time}
-use Rattle.run_segments.specs.declared.segments.Stretch.{Stretch}
-use Rattle.run_segments.specs.Segments.{is_alike, begins, stretch_in, stretches_in}
+use Rattle.run_segments.specs.declared.segments.Segment.{Segment}
+use Rattle.run_segments.specs.Segments.{is_alike, begins, segment_in, segments_in}
 
 -- ---- on which siblings a task is queued
 
@@ -20,40 +20,40 @@ pub record AreMarksOf (siblings : ℕ) (room : RoomState) (queued : Marks) : Typ
   pub each : length queued.marks ≡ siblings
   pub right : queued.is_known ≡ true → (cpu : ℕ) (none : Bool) → cpu < siblings → slice_index_or queued.marks cpu none ≡ has_queued room cpu
 
--- ---- the stretches
+-- ---- the segments
 
--- the stretches so far, and the place of the last one of each sibling, 0 where it has none yet
+-- the segments so far, and the place of the last one of each sibling, 0 where it has none yet
 pub record Kept : Type 0 where
-  pub stretches : List Stretch
+  pub segments : List Segment
   pub places : List ℕ
 
--- whether a stretch goes on with the next one: that is of the same sibling, begins where this ends, and is alike
-abbrev pub goes_on_with : Stretch → Stretch → Bool
-goes_on_with stretch next = (stretch.cpu == next.cpu) && (stretch.to == next.from) && is_alike stretch next
+-- whether a segment goes on with the next one: that is of the same sibling, begins where this ends, and is alike
+abbrev pub goes_on_with : Segment → Segment → Bool
+goes_on_with segment next = (segment.cpu == next.cpu) && (segment.to == next.from) && is_alike segment next
 
--- the place of the last stretch of a sibling, and that stretch
+-- the place of the last segment of a sibling, and that segment
 abbrev pub place_of : Kept → ℕ → ℕ
 place_of kept cpu = slice_index_or kept.places cpu 0
 
-abbrev pub last_before : Stretch → Kept → Stretch
-last_before next kept = slice_index_or kept.stretches (place_of kept next.cpu) next
+abbrev pub last_before : Segment → Kept → Segment
+last_before next kept = slice_index_or kept.segments (place_of kept next.cpu) next
 
 -- whether there is one, and it goes on with the next one
-abbrev pub last_goes_on : Kept → Stretch → Bool
-last_goes_on kept next = nat_lt (place_of kept next.cpu) (length kept.stretches) && goes_on_with (last_before next kept) next
+abbrev pub last_goes_on : Kept → Segment → Bool
+last_goes_on kept next = nat_lt (place_of kept next.cpu) (length kept.segments) && goes_on_with (last_before next kept) next
 
 -- it lasts longer
-abbrev pub longer : Stretch → Kept → Kept
+abbrev pub longer : Segment → Kept → Kept
 longer next kept =
-    record kept { stretches = slice_set kept.stretches (place_of kept next.cpu) (record (last_before next kept) { to = next.to }) }
+    record kept { segments = slice_set kept.segments (place_of kept next.cpu) (record (last_before next kept) { to = next.to }) }
 
 -- the next one is one more
-abbrev pub with_one : Stretch → Kept → Kept
+abbrev pub with_one : Segment → Kept → Kept
 with_one next kept =
-    record { stretches = kept.stretches ++ next ∷ []; places = slice_set kept.places next.cpu (length kept.stretches) }
+    record { segments = kept.segments ++ next ∷ []; places = slice_set kept.places next.cpu (length kept.segments) }
 
--- what is kept with the next stretch of a sibling
-abbrev pub kept_with : Stretch → Kept → Kept
+-- what is kept with the next segment of a sibling
+abbrev pub kept_with : Segment → Kept → Kept
 kept_with next kept = if last_goes_on kept next then longer next kept else with_one next kept
 
 -- ---- what is kept of spans
@@ -68,35 +68,35 @@ abbrev pub last_span : Option Span → List Span → Option Span
 last_span past [] = past
 last_span past (span ∷ spans) = last_span (Some span) spans
 
--- A stretch stands where it is to: it is of one of these siblings, and lasts no longer than up to the clock of its sibling.
+-- A segment stands where it is to: it is of one of these siblings, and lasts no longer than up to the clock of its sibling.
 -- One that lasts up to that is the last one of its sibling, and stands at the place of that.
-pub record IsPlaced (siblings : ℕ) (clock : ℕ → ℕ) (kept : Kept) (place : ℕ) (stretch : Stretch) : Type 0 where
-  pub cpu : stretch.cpu < siblings
-  pub ended : stretch.to ≤ clock stretch.cpu
-  pub last : stretch.to ≡ clock stretch.cpu → place_of kept stretch.cpu ≡ place
+pub record IsPlaced (siblings : ℕ) (clock : ℕ → ℕ) (kept : Kept) (place : ℕ) (segment : Segment) : Type 0 where
+  pub cpu : segment.cpu < siblings
+  pub ended : segment.to ≤ clock segment.cpu
+  pub last : segment.to ≡ clock segment.cpu → place_of kept segment.cpu ≡ place
 
--- The stretches stand where they are to, where each sibling is kept up to a clock of its own and a last span, or none. Its
--- last stretch goes on with what it does in the next span exactly where no stretch of it begins with that.
+-- The segments stand where they are to, where each sibling is kept up to a clock of its own and a last span, or none. Its
+-- last segment goes on with what it does in the next span exactly where no segment of it begins with that.
 pub record ArePlaced (siblings : ℕ) (clock : ℕ → ℕ) (past : ℕ → Option Span) (kept : Kept) : Type 0 where
   pub each : length kept.places ≡ siblings
-  pub last : (place : ℕ) (none : Stretch) → place < length kept.stretches →
-      IsPlaced siblings clock kept place (slice_index_or kept.stretches place none)
+  pub last : (place : ℕ) (none : Segment) → place < length kept.segments →
+      IsPlaced siblings clock kept place (slice_index_or kept.segments place none)
   pub goes_on : (cpu : ℕ) (next : Span) → cpu < siblings → next.room.clock ≡ clock cpu →
-      last_goes_on kept (stretch_in next cpu) ≡ not (begins (past cpu) next cpu)
+      last_goes_on kept (segment_in next cpu) ≡ not (begins (past cpu) next cpu)
 
--- The stretches of these spans are kept.
+-- The segments of these spans are kept.
 pub record AreKept (siblings : ℕ) (spans : List Span) (kept : Kept) : Type 0 where
   pub follow : Follow 0 spans
-  pub stretches : kept.stretches ≡ stretches_in siblings None spans
+  pub segments : kept.segments ≡ segments_in siblings None spans
   pub placed : ArePlaced siblings (λ _. total_time spans) (λ _. last_span None spans) kept
 
--- The stretches of a history are kept, as long as its clock fits into 64 bits.
-abbrev pub AreStretchesOf : Opening → History → Kept → Type 0
-AreStretchesOf opening history kept =
+-- The segments of a history are kept, as long as its clock fits into 64 bits.
+abbrev pub HasSegmentsOf : Opening → History → Kept → Type 0
+HasSegmentsOf opening history kept =
     total_time (spans_of opening history) < 2 ^ 64 → AreKept opening.scenario.siblings (spans_of opening history) kept
 
 -- This is kept of a history.
 pub record IsRecordOf (opening : Opening) (history : History) (kept : Kept) (queued : Marks) : Type 0 where
   pub each : length kept.places ≡ opening.scenario.siblings
-  pub stretches : AreStretchesOf opening history kept
+  pub segments : HasSegmentsOf opening history kept
   pub marks : AreMarksOf opening.scenario.siblings (fold_of opening history) queued

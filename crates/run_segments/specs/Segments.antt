@@ -8,7 +8,7 @@ use Rattle.run_times.specs.declared.doing.Doing.{Doing}
 use Rattle.run_times.specs.declared.doing.Doing.TheVariants.{Offline, Runs, Idles, ForcedIdle}
 use Rattle.run_times.specs.Doing.{doing_of, is_pending}
 use Rattle.run_times.specs.Times.{Span, spans_of, total_time}
-use Rattle.run_segments.specs.declared.segments.Stretch.{Stretch}
+use Rattle.run_segments.specs.declared.segments.Segment.{Segment}
 
 -- the pid of the task that a sibling runs, 0 where it is offline or runs idle
 abbrev pub pid_run : RoomState → ℕ → ℕ
@@ -22,9 +22,9 @@ is_same Idles Idles = true
 is_same (ForcedIdle a) (ForcedIdle b) = a == b
 is_same one other = false
 
--- what a sibling does in a span, as the stretch of that span alone
-abbrev pub stretch_in : Span → ℕ → Stretch
-stretch_in span cpu =
+-- what a sibling does in a span, as the segment of that span alone
+abbrev pub segment_in : Span → ℕ → Segment
+segment_in span cpu =
     record {
       from = span.room.clock;
       to = span.room.clock + span.time;
@@ -34,44 +34,44 @@ stretch_in span cpu =
       pending = is_pending span.room cpu;
     }
 
--- whether two stretches are alike: their sibling runs the same task or none, does the same, and is pending in both or in
+-- whether two segments are alike: their sibling runs the same task or none, does the same, and is pending in both or in
 -- neither
-abbrev pub is_alike : Stretch → Stretch → Bool
+abbrev pub is_alike : Segment → Segment → Bool
 is_alike one other =
     (one.pid == other.pid) && is_same one.doing other.doing && (if one.pending then other.pending else not other.pending)
 
 -- whether a sibling goes on in a span with what it did in another
 abbrev pub goes_on : ℕ → Span → Span → Bool
-goes_on cpu past span = is_alike (stretch_in past cpu) (stretch_in span cpu)
+goes_on cpu past span = is_alike (segment_in past cpu) (segment_in span cpu)
 
--- whether a stretch of a sibling begins with a span: at the first one, and where the sibling does not go on from the one
+-- whether a segment of a sibling begins with a span: at the first one, and where the sibling does not go on from the one
 -- before
 abbrev pub begins : Option Span → Span → ℕ → Bool
 begins None span cpu = true
 begins (Some past) span cpu = not (goes_on cpu past span)
 
--- the stretch of a sibling that begins with a span, where these come after it: it lasts as long as the sibling goes on
-abbrev pub stretch_from : Span → List Span → ℕ → Stretch
-stretch_from span later cpu =
-    let first = stretch_in span cpu in
+-- the segment of a sibling that begins with a span, where these come after it: it lasts as long as the sibling goes on
+abbrev pub segment_from : Span → List Span → ℕ → Segment
+segment_from span later cpu =
+    let first = segment_in span cpu in
     record first { to = first.to + total_time (take_while (goes_on cpu span) later) }
 
--- the stretches that begin in these spans of a core with this number of siblings, after another span or none: by rising
+-- the segments that begin in these spans of a core with this number of siblings, after another span or none: by rising
 -- begin, and of one begin by rising sibling
-abbrev pub stretches_in : ℕ → Option Span → List Span → List Stretch
-stretches_in siblings past [] = []
-stretches_in siblings past (span ∷ later) =
-    map (stretch_from span later) (filter (begins past span) (range_with_len 0 siblings)) ++ stretches_in siblings (Some span) later
+abbrev pub segments_in : ℕ → Option Span → List Span → List Segment
+segments_in siblings past [] = []
+segments_in siblings past (span ∷ later) =
+    map (segment_from span later) (filter (begins past span) (range_with_len 0 siblings)) ++ segments_in siblings (Some span) later
 
--- the stretches of a history
-abbrev pub stretches_of : Opening → History → List Stretch
-stretches_of opening history = stretches_in opening.scenario.siblings None (spans_of opening history)
+-- the segments of a history
+abbrev pub segments_of : Opening → History → List Segment
+segments_of opening history = segments_in opening.scenario.siblings None (spans_of opening history)
 
 -- those of a sibling
-abbrev pub stretches_on : ℕ → List Stretch → List Stretch
-stretches_on cpu stretches = filter (λ stretch. stretch.cpu == cpu) stretches
+abbrev pub segments_on : ℕ → List Segment → List Segment
+segments_on cpu segments = filter (λ segment. segment.cpu == cpu) segments
 
--- these stretches follow one another without a gap from one clock to another, and each lasts for some time
-abbrev pub IsGapless : ℕ → List Stretch → ℕ → Type 0
+-- these segments follow one another without a gap from one clock to another, and each lasts for some time
+abbrev pub IsGapless : ℕ → List Segment → ℕ → Type 0
 IsGapless from [] to = from ≡ to
-IsGapless from (stretch ∷ stretches) to = (stretch.from ≡ from) × (from < stretch.to) × IsGapless stretch.to stretches to
+IsGapless from (segment ∷ segments) to = (segment.from ≡ from) × (from < segment.to) × IsGapless segment.to segments to

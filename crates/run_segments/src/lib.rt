@@ -1,5 +1,5 @@
-//! What a run shows over time: what each sibling did in each stretch, and when tasks that distrust each other ran side
-//! by side. It is over the contract of a machine alone.
+//! What a run shows over time: its segments, each of which tells what one sibling did without a break, and when tasks that
+//! distrust each other ran side by side. It is over the contract of a machine alone.
 #![tactic(auto)]
 
 mod kept;
@@ -10,4 +10,4 @@ mod run;
 mod segments;
 
 pub use run::recorded_run;
-pub use segments::{RunStretches, Stretch, Window};
+pub use segments::{RunSegments, Segment, Window};

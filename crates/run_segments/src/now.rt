@@ -4,7 +4,7 @@ ghost use Rattle.std.specs.Prelude.{◌≡◌, ◌<◌};
 ghost use Rattle.cs_types.specs.Scenario.{IsPlayable};
 ghost use Rattle.cs_types.specs.History.{fold_of};
 ghost use Rattle.run_times.specs.Doing as doing;
-ghost use Rattle.run_segments.specs.Segments as stretches;
+ghost use Rattle.run_segments.specs.Segments as segments;
 ghost use Rattle.run_segments.specs.Kept.{AreMarksOf};
 
 use crate::queued::Queued;
@@ -42,7 +42,7 @@ pub(crate) fn now_of<R: Room>(room: &R, cpu: Cpu, queued: &mut Queued) -> Now
     requires cpu { cpu < (R.opening room.now).scenario.siblings }
     requires marks { let opening = R.opening room.now in
         AreMarksOf opening.scenario.siblings (fold_of opening (R.history room.now)) queued.old }
-    ensures pid { result.pid ≡ stretches.pid_run (fold_of (R.opening room.now) (R.history room.now)) cpu }
+    ensures pid { result.pid ≡ segments.pid_run (fold_of (R.opening room.now) (R.history room.now)) cpu }
     ensures doing { result.doing ≡ doing.doing_of (fold_of (R.opening room.now) (R.history room.now)) cpu }
     ensures pending { result.pending ≡ doing.is_pending (fold_of (R.opening room.now) (R.history room.now)) cpu }
     ensures marks { let opening = R.opening room.now in

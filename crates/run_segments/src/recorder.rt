@@ -7,13 +7,13 @@ ghost use Rattle.cs_types.specs.Room.{Opening, RoomState};
 ghost use Rattle.cs_types.specs.declared.event.Event.TheVariants.{Advance};
 ghost use Rattle.cs_types.specs.History.{fold_of};
 ghost use Rattle.run_times.specs.Times.{Span, total_time};
-ghost use Rattle.run_segments.specs.Segments.{stretches_of, IsGapless, stretches_on};
-ghost use Rattle.run_segments.specs.Kept.{AreMarksOf, AreKept, AreStretchesOf, IsRecordOf};
+ghost use Rattle.run_segments.specs.Segments.{segments_of, IsGapless, segments_on};
+ghost use Rattle.run_segments.specs.Kept.{AreMarksOf, AreKept, HasSegmentsOf, IsRecordOf};
 
-use crate::kept::KeptStretches;
+use crate::kept::KeptSegments;
 use crate::now::now_of;
 use crate::queued::Queued;
-use crate::segments::{RunStretches, Stretch, Window};
+use crate::segments::{RunSegments, Segment, Window};
 use cs_types::{Event, OutOfMemory, Room};
 use run_times::{advance_of, is_exposed};
 use std::alloc::Global;
@@ -21,7 +21,7 @@ use std::alloc::Global;
 /// What a run showed so far.
 #[derive(Drop)]
 pub(crate) struct Recorder {
-    stretches: KeptStretches,
+    segments: KeptSegments,
     queued: Queued,
     windows: Vec<Window>,
     moments: Vec<u64>,
@@ -51,10 +51,10 @@ impl Recorder {
     /// What a run of a core with this number of siblings showed before its first step.
     pub(crate) fn none(alloc: Global, siblings: u8) -> Result<Self, OutOfMemory>
         ensures { IfOk result (λ recorder. (opening : Opening) → opening.scenario.siblings ≡ siblings →
-            IsRecordOf opening [] recorder.stretches recorder.queued) }
+            IsRecordOf opening [] recorder.segments recorder.queued) }
     {
         Ok(Recorder {
-            stretches: KeptStretches::none(alloc, siblings)?,
+            segments: KeptSegments::none(alloc, siblings)?,
             queued: Queued::none(alloc, siblings)?,
             windows: Vec::new(alloc),
             moments: Vec::new(alloc),
@@ -64,21 +64,21 @@ impl Recorder {
     /// Takes in what each sibling does from one moment to another.
     fn keep_each<R: Room>(&mut self, room: &R, from: u64, to: u64) -> Result<(), OutOfMemory>
         requires playable { IsPlayable (R.opening room.now).scenario }
-        requires each { length self.old.stretches.places ≡ (R.opening room.now).scenario.siblings }
+        requires each { length self.old.segments.places ≡ (R.opening room.now).scenario.siblings }
         requires marks { let opening = R.opening room.now in
             AreMarksOf opening.scenario.siblings (fold_of opening (R.history room.now)) self.old.queued }
-        ensures each { OnOk result (length self.new.stretches.places ≡ (R.opening room.now).scenario.siblings) }
+        ensures each { OnOk result (length self.new.segments.places ≡ (R.opening room.now).scenario.siblings) }
         ensures marks { let opening = R.opening room.now in
             OnOk result (AreMarksOf opening.scenario.siblings (fold_of opening (R.history room.now)) self.new.queued) }
         ensures kept { let opening = R.opening room.now in
             OnOk result ((spans : List Span) (span : Span) → span.room ≡ fold_of opening (R.history room.now) →
             span.room.clock ≡ from → from + span.time ≡ to → 0 < span.time → total_time spans ≡ from →
-            AreKept opening.scenario.siblings spans self.old.stretches →
-            AreKept opening.scenario.siblings (spans ++ span ∷ []) self.new.stretches) }
+            AreKept opening.scenario.siblings spans self.old.segments →
+            AreKept opening.scenario.siblings (spans ++ span ∷ []) self.new.segments) }
     {
         for cpu in 0..room.siblings() {
             let now = now_of(room, cpu, &mut self.queued);
-            self.stretches.keep(Stretch {
+            self.segments.keep(Segment {
                 from,
                 to,
                 cpu,
@@ -93,10 +93,10 @@ impl Recorder {
     /// Takes in an advance by this time, in ns, that is to be made next in the room.
     fn advance<R: Room>(&mut self, room: &R, time: u64) -> Result<(), OutOfMemory>
         requires playable { IsPlayable (R.opening room.now).scenario }
-        requires record { IsRecordOf (R.opening room.now) (R.history room.now) self.old.stretches self.old.queued }
+        requires record { IsRecordOf (R.opening room.now) (R.history room.now) self.old.segments self.old.queued }
         requires time { 0 < time }
         ensures { OnOk result ((entry : Entry) → entry.event ≡ Advance time →
-            IsRecordOf (R.opening room.now) (R.history room.now ++ entry ∷ []) self.new.stretches self.new.queued) }
+            IsRecordOf (R.opening room.now) (R.history room.now ++ entry ∷ []) self.new.segments self.new.queued) }
     {
         let from = room.clock();
         let to = from.saturating_add(time);
@@ -109,7 +109,7 @@ impl Recorder {
 
     /// Takes in an event that takes no time and is to be made next in the room, or the events of the end.
     pub(crate) fn moment<R: Room>(&mut self, room: &R) -> Result<(), OutOfMemory>
-        ensures stretches { self.new.stretches ≡ self.old.stretches }
+        ensures segments { self.new.segments ≡ self.old.segments }
         ensures marks { OnOk result ((siblings : ℕ) (before now : RoomState) →
             AreMarksOf siblings before self.old.queued → AreMarksOf siblings now self.new.queued) }
     {
@@ -122,9 +122,9 @@ impl Recorder {
     pub(crate) fn before<R: Room>(&mut self, room: &R, event: Event) -> Result<(), OutOfMemory>
         requires playable { IsPlayable (R.opening room.now).scenario }
         requires event { IsEvent (R.opening room.now).scenario.siblings event }
-        requires record { IsRecordOf (R.opening room.now) (R.history room.now) self.old.stretches self.old.queued }
+        requires record { IsRecordOf (R.opening room.now) (R.history room.now) self.old.segments self.old.queued }
         ensures { OnOk result ((entry : Entry) → entry.event ≡ event →
-            IsRecordOf (R.opening room.now) (R.history room.now ++ entry ∷ []) self.new.stretches self.new.queued) }
+            IsRecordOf (R.opening room.now) (R.history room.now ++ entry ∷ []) self.new.segments self.new.queued) }
     {
         match advance_of(event) {
             Some(time) => self.advance(room, time),
@@ -133,22 +133,22 @@ impl Recorder {
     }
 
     /// What the run showed, in a room where it is over.
-    pub(crate) fn close<R: Room>(self, room: &R) -> RunStretches
-        requires { AreStretchesOf (R.opening room.now) (R.history room.now) self.stretches }
-        ensures stretches { result ≡ stretches_of (R.opening room.now) (R.history room.now) }
+    pub(crate) fn close<R: Room>(self, room: &R) -> RunSegments
+        requires { HasSegmentsOf (R.opening room.now) (R.history room.now) self.segments }
+        ensures segments { result ≡ segments_of (R.opening room.now) (R.history room.now) }
         ensures gapless { (cpu : ℕ) → cpu < (R.opening room.now).scenario.siblings →
-            IsGapless 0 (stretches_on cpu result) (fold_of (R.opening room.now) (R.history room.now)).clock }
+            IsGapless 0 (segments_on cpu result) (fold_of (R.opening room.now) (R.history room.now)).clock }
     {
         let Recorder {
-            stretches,
+            segments,
             windows,
             moments,
             ..
         } = self;
-        RunStretches {
+        RunSegments {
             siblings: room.siblings(),
             total: room.clock(),
-            stretches: stretches.all(),
+            segments: segments.all(),
             windows,
             moments,
         }

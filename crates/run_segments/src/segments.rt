@@ -6,9 +6,9 @@ use cs_types::{Cpu, Pid};
 use run_times::Doing;
 use std::marker::Model;
 
-/// A stretch of time in which a sibling does one thing.
+/// A segment: what one sibling did without a break, from one clock to another. What takes no time is no break.
 #[derive(Clone, Copy)]
-pub struct Stretch {
+pub struct Segment {
     /// The clock at its begin, in ns.
     pub from: u64,
     /// The clock at its end, in ns, above its begin.
@@ -23,7 +23,7 @@ pub struct Stretch {
     pub pending: bool,
 }
 
-/// A stretch of time in which two online siblings run tasks with distinct cookies.
+/// A time, from one clock to another, in which two online siblings run tasks with distinct cookies.
 #[derive(Clone, Copy)]
 pub struct Window {
     /// The clock at its begin, in ns.
@@ -34,25 +34,25 @@ pub struct Window {
 
 /// What a run shows over time.
 #[derive(Drop)]
-pub struct RunStretches {
+pub struct RunSegments {
     pub(crate) siblings: u8,
     pub(crate) total: u64,
-    pub(crate) stretches: Vec<Stretch>,
+    pub(crate) segments: Vec<Segment>,
     pub(crate) windows: Vec<Window>,
     pub(crate) moments: Vec<u64>,
 }
 
 // It stands for what each sibling did over time.
-impl Model for RunStretches {
+impl Model for RunSegments {
     ghost use Rattle.std.specs.Prelude.{List};
-    ghost use Rattle.run_segments.specs.declared.segments.Stretch.{Stretch};
+    ghost use Rattle.run_segments.specs.declared.segments.Segment.{Segment};
 
-    ghost Value = { List Stretch };
+    ghost Value = { List Segment };
 
-    ghost view = { λ run. run.stretches.items };
+    ghost view = { λ run. run.segments.items };
 }
 
-impl RunStretches {
+impl RunSegments {
     /// The siblings of the core, a count.
     pub fn siblings(&self) -> u8 {
         self.siblings
@@ -63,12 +63,12 @@ impl RunStretches {
         self.total
     }
 
-    /// The stretches by rising begin, and of one begin by rising sibling. Those of a sibling follow one another without
+    /// The segments by rising begin, and of one begin by rising sibling. Those of a sibling follow one another without
     /// a gap, from 0 to the end.
-    pub fn stretches(&self) -> &[Stretch]
+    pub fn segments(&self) -> &[Segment]
         ensures { result.now ≡ self.now }
     {
-        self.stretches.as_slice()
+        self.segments.as_slice()
     }
 
     /// When two online siblings ran tasks with distinct cookies, by rising time. No two of them touch.

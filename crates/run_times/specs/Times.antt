@@ -43,6 +43,7 @@ time_in fact spans = total_time (filter (λ span. fact span.room) spans)
 abbrev pub lasting : (RoomState → Bool) → List Span → ℕ
 lasting fact spans = total_time (take_while (λ span. fact span.room) (reverse spans))
 
--- its longest stretch, in ns: the longest that it has lasted at the end of any of them. What takes no time ends no stretch.
+-- the longest time for which it held without a break, in ns: the longest that it has lasted at the end of any of them. What
+-- takes no time is no break.
 abbrev pub longest : (RoomState → Bool) → List Span → ℕ
 longest fact spans = fold max 0 (map (λ n. lasting fact (take n spans)) (range_with_len 0 (length spans + 1)))

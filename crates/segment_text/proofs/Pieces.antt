@@ -5,7 +5,7 @@ use Rattle.std.specs.List.{join_with_byte, zip}
 use Rattle.std.proofs.lemmas.List.{append-nil}
 use Rattle.cs_outside.specs.Device.{appended, WritesPrefix}
 use Rattle.cs_outside.proofs.Reached.{Reached, reached_start, reached_more, reached_prefix, reached_end}
-use Rattle.run_segments.specs.declared.segments.Stretch.{Stretch}
+use Rattle.run_segments.specs.declared.segments.Segment.{Segment}
 use Rattle.scenario_text.specs.Words.{Word}
 use Rattle.segment_text.specs.Cells.{columns, state_word, cookie_of, is_forced, pid_of}
 use Rattle.segment_text.specs.Table.{tabbed}
@@ -60,34 +60,34 @@ object_pieces from to sibling state cookie pending forced pid =
     (back pending forced pid))
 
 -- both go out, or a prefix of them
-module _ (stretch : Stretch) (before : Option (List ℕ)) where
+module _ (segment : Segment) (before : Option (List ℕ)) where
   abbrev front_of : List ℕ
-  front_of = front (decimal stretch.from) (decimal stretch.to) (decimal stretch.cpu) (state_word stretch.doing) (number_or_null (cookie_of stretch.doing))
+  front_of = front (decimal segment.from) (decimal segment.to) (decimal segment.cpu) (state_word segment.doing) (number_or_null (cookie_of segment.doing))
 
   abbrev back_of : List ℕ
-  back_of = back (truth_value stretch.pending) (truth_value (is_forced stretch.doing)) (number_or_null (pid_of stretch.pid))
+  back_of = back (truth_value segment.pending) (truth_value (is_forced segment.doing)) (number_or_null (pid_of segment.pid))
 
-  is_both : object_line stretch ≡ front_of ++ back_of
+  is_both : object_line segment ≡ front_of ++ back_of
   is_both =
-      object_pieces (decimal stretch.from) (decimal stretch.to) (decimal stretch.cpu) (state_word stretch.doing) (number_or_null (cookie_of stretch.doing))
-      (truth_value stretch.pending) (truth_value (is_forced stretch.doing)) (number_or_null (pid_of stretch.pid))
+      object_pieces (decimal segment.from) (decimal segment.to) (decimal segment.cpu) (state_word segment.doing) (number_or_null (cookie_of segment.doing))
+      (truth_value segment.pending) (truth_value (is_forced segment.doing)) (number_or_null (pid_of segment.pid))
 
-  nothing_out : Reached before (object_line stretch) (object_line stretch) before
-  nothing_out = reached_start before (object_line stretch) (object_line stretch) refl
+  nothing_out : Reached before (object_line segment) (object_line segment) before
+  nothing_out = reached_start before (object_line segment) (object_line segment) refl
 
-  pub front_prefix : (bytes : List ℕ) (now : Option (List ℕ)) → bytes ≡ front_of → WritesPrefix before bytes now → WritesPrefix before (object_line stretch) now
-  front_prefix bytes now is sent = reached_prefix before (object_line stretch) (object_line stretch) front_of back_of bytes before now nothing_out is_both is sent
+  pub front_prefix : (bytes : List ℕ) (now : Option (List ℕ)) → bytes ≡ front_of → WritesPrefix before bytes now → WritesPrefix before (object_line segment) now
+  front_prefix bytes now is sent = reached_prefix before (object_line segment) (object_line segment) front_of back_of bytes before now nothing_out is_both is sent
 
-  front_out : (bytes : List ℕ) (mid : Option (List ℕ)) → bytes ≡ front_of → mid ≡ appended before bytes → Reached before (object_line stretch) back_of mid
-  front_out bytes mid is sent = reached_more before (object_line stretch) (object_line stretch) front_of back_of bytes before mid nothing_out is_both is sent
+  front_out : (bytes : List ℕ) (mid : Option (List ℕ)) → bytes ≡ front_of → mid ≡ appended before bytes → Reached before (object_line segment) back_of mid
+  front_out bytes mid is sent = reached_more before (object_line segment) (object_line segment) front_of back_of bytes before mid nothing_out is_both is sent
 
   pub both_out : (first second : List ℕ) (mid now : Option (List ℕ)) → first ≡ front_of → mid ≡ appended before first → second ≡ back_of → now ≡ appended mid second →
-      now ≡ appended before (object_line stretch)
+      now ≡ appended before (object_line segment)
   both_out first second mid now is sent is_back then =
-      reached_end before (object_line stretch) [] now
-      (reached_more before (object_line stretch) back_of back_of [] second mid now (front_out first mid is sent) (sym (append-nil back_of)) is_back then) refl
+      reached_end before (object_line segment) [] now
+      (reached_more before (object_line segment) back_of back_of [] second mid now (front_out first mid is sent) (sym (append-nil back_of)) is_back then) refl
 
   pub both_prefix : (first second : List ℕ) (mid now : Option (List ℕ)) → first ≡ front_of → mid ≡ appended before first → second ≡ back_of → WritesPrefix mid second now →
-      WritesPrefix before (object_line stretch) now
+      WritesPrefix before (object_line segment) now
   both_prefix first second mid now is sent is_back then =
-      reached_prefix before (object_line stretch) back_of back_of [] second mid now (front_out first mid is sent) (sym (append-nil back_of)) is_back then
+      reached_prefix before (object_line segment) back_of back_of [] second mid now (front_out first mid is sent) (sym (append-nil back_of)) is_back then

@@ -1,4 +1,4 @@
--- Cells: what a line says of a stretch, in either form.
+-- Cells: what a line says of a segment, in either form.
 use Rattle.std.specs.Prelude.{ℕ, ◌==◌, if◌then◌else◌, Bool, true, false, Option, Some, None, List, [], ◌∷◌, codes}
 use Rattle.run_times.specs.declared.doing.Doing.{Doing}
 use Rattle.run_times.specs.declared.doing.Doing.TheVariants.{Offline, Runs, Idles, ForcedIdle}

@@ -1,4 +1,4 @@
-//! What a line says of a stretch. It is separate since both forms say the same.
+//! What a line says of a segment. It is separate since both forms say the same.
 
 ghost use Rattle.std.specs.Prelude.{◌≡◌, ◌≤◌, length};
 ghost use Rattle.segment_text.specs.Cells as told;

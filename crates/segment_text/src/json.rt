@@ -8,7 +8,7 @@ ghost use Rattle.segment_text.specs.Json.{number_or_null, truth_value, object_li
 
 use crate::cells::{cookie_of, is_forced, pid_of, state_word};
 use cs_outside::{Failed, Sink, write_all};
-use run_segments::{RunStretches, Stretch};
+use run_segments::{RunSegments, Segment};
 use scenario_text::Line;
 
 /// Puts a number on the line, or `null` where there is none.
@@ -32,10 +32,10 @@ fn put_truth(line: &mut Line, holds: bool)
     line.text(if holds { "true" } else { "false" });
 }
 
-/// Writes the object of a stretch, and a line feed. At an `Err` the sink has failed, and a prefix of it is written.
-fn write_object<K: Sink>(stretch: &Stretch, sink: &mut K) -> Result<(), Failed>
-    ensures ok { OnOk result (K.written sink.new ≡ appended (K.written sink.old) (object_line stretch.now)) }
-    ensures prefix { WritesPrefix (K.written sink.old) (object_line stretch.now) (K.written sink.new) }
+/// Writes the object of a segment, and a line feed. At an `Err` the sink has failed, and a prefix of it is written.
+fn write_object<K: Sink>(segment: &Segment, sink: &mut K) -> Result<(), Failed>
+    ensures ok { OnOk result (K.written sink.new ≡ appended (K.written sink.old) (object_line segment.now)) }
+    ensures prefix { WritesPrefix (K.written sink.old) (object_line segment.now) (K.written sink.new) }
 
     ensures faultless { OnOk result (K.faults sink.new ≡ K.faults sink.old) }
     ensures failed { OnErr result (Rose (K.faults sink.old) (K.faults sink.new)) }
@@ -43,30 +43,30 @@ fn write_object<K: Sink>(stretch: &Stretch, sink: &mut K) -> Result<(), Failed>
 {
     let mut line = Line::new();
     line.text("{\"from\":");
-    line.number(stretch.from);
+    line.number(segment.from);
     line.text(",\"to\":");
-    line.number(stretch.to);
+    line.number(segment.to);
     line.text(",\"sibling\":");
-    line.number(stretch.cpu);
+    line.number(segment.cpu);
     line.text(",\"state\":\"");
-    line.text(state_word(stretch.doing));
+    line.text(state_word(segment.doing));
     line.text("\",\"cookie\":");
-    put_number(&mut line, cookie_of(stretch.doing));
+    put_number(&mut line, cookie_of(segment.doing));
     write_all(sink, line.as_bytes())?;
     line.clear();
     line.text(",\"pending\":");
-    put_truth(&mut line, stretch.pending);
+    put_truth(&mut line, segment.pending);
     line.text(",\"forced\":");
-    put_truth(&mut line, is_forced(stretch.doing));
+    put_truth(&mut line, is_forced(segment.doing));
     line.text(",\"pid\":");
-    put_number(&mut line, pid_of(stretch.pid));
+    put_number(&mut line, pid_of(segment.pid));
     line.text("}\n");
     write_all(sink, line.as_bytes())
 }
 
-/// Writes a run's stretches as lines of JSON: an object for each stretch, with the columns of the table as its members. At
+/// Writes a run's segments as lines of JSON: an object for each segment, with the columns of the table as its members. At
 /// an `Err` the sink has failed, and a prefix of the lines is written. It takes no memory.
-pub fn segments_json<K: Sink>(run: &RunStretches, sink: &mut K) -> Result<(), Failed>
+pub fn segments_json<K: Sink>(run: &RunSegments, sink: &mut K) -> Result<(), Failed>
     ensures ok { OnOk result (K.written sink.new ≡ appended (K.written sink.old) (segments_json_text run.now)) }
     ensures prefix { WritesPrefix (K.written sink.old) (segments_json_text run.now) (K.written sink.new) }
 
@@ -74,8 +74,8 @@ pub fn segments_json<K: Sink>(run: &RunStretches, sink: &mut K) -> Result<(), Fa
     ensures failed { OnErr result (Rose (K.faults sink.old) (K.faults sink.new)) }
     ensures counted { K.faults sink.old ≤ K.faults sink.new }
 {
-    for stretch in run.stretches() {
-        write_object(stretch, sink)?;
+    for segment in run.segments() {
+        write_object(segment, sink)?;
     }
     Ok(())
 }

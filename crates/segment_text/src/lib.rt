@@ -1,5 +1,5 @@
-//! What is told of a run over time: a line for each stretch, as a table or as JSON. It knows no machine, only the
-//! stretches.
+//! What is told of a run over time: a line for each segment, as a table or as JSON. It knows no machine, only the
+//! segments.
 #![tactic(auto)]
 
 mod cells;

@@ -8,7 +8,7 @@ ghost use Rattle.segment_text.specs.Table.{number_cell, row_text, segments_text}
 
 use crate::cells::{cookie_of, is_forced, pid_of, state_word};
 use cs_outside::{Failed, Sink, write_all};
-use run_segments::{RunStretches, Stretch};
+use run_segments::{RunSegments, Segment};
 use scenario_text::Line;
 
 /// The names of the columns.
@@ -34,34 +34,34 @@ fn put_answer(line: &mut Line, holds: bool)
     line.text(if holds { "yes" } else { "no" });
 }
 
-/// The line of a stretch.
-fn row_of(stretch: &Stretch) -> Line
-    ensures { result ≡ row_text stretch.now }
+/// The line of a segment.
+fn row_of(segment: &Segment) -> Line
+    ensures { result ≡ row_text segment.now }
 {
     let mut line = Line::new();
-    line.number(stretch.from);
+    line.number(segment.from);
     line.text("\t");
-    line.number(stretch.to);
+    line.number(segment.to);
     line.text("\t");
-    line.number(stretch.cpu);
+    line.number(segment.cpu);
     line.text("\t");
-    line.text(state_word(stretch.doing));
+    line.text(state_word(segment.doing));
     line.text("\t");
-    put_number(&mut line, cookie_of(stretch.doing));
+    put_number(&mut line, cookie_of(segment.doing));
     line.text("\t");
-    put_answer(&mut line, stretch.pending);
+    put_answer(&mut line, segment.pending);
     line.text("\t");
-    put_answer(&mut line, is_forced(stretch.doing));
+    put_answer(&mut line, is_forced(segment.doing));
     line.text("\t");
-    put_number(&mut line, pid_of(stretch.pid));
+    put_number(&mut line, pid_of(segment.pid));
     line.text("\n");
     line
 }
 
-/// Writes the table of a run's stretches: the names of the columns, and a line for each stretch. The cells of a line are
+/// Writes the table of a run's segments: the names of the columns, and a line for each segment. The cells of a line are
 /// separated by tabs. Each line goes to the sink in one piece, and again with the rest where the sink took only a part. At
 /// an `Err` the sink has failed, and a prefix of the table is written. It takes no memory.
-pub fn segments<K: Sink>(run: &RunStretches, sink: &mut K) -> Result<(), Failed>
+pub fn segments<K: Sink>(run: &RunSegments, sink: &mut K) -> Result<(), Failed>
     ensures ok { OnOk result (K.written sink.new ≡ appended (K.written sink.old) (segments_text run.now)) }
     ensures prefix { WritesPrefix (K.written sink.old) (segments_text run.now) (K.written sink.new) }
 
@@ -70,8 +70,8 @@ pub fn segments<K: Sink>(run: &RunStretches, sink: &mut K) -> Result<(), Failed>
     ensures counted { K.faults sink.old ≤ K.faults sink.new }
 {
     write_all(sink, HEAD.as_bytes())?;
-    for stretch in run.stretches() {
-        write_all(sink, row_of(stretch).as_bytes())?;
+    for segment in run.segments() {
+        write_all(sink, row_of(segment).as_bytes())?;
     }
     Ok(())
 }

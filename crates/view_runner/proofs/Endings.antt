@@ -7,7 +7,7 @@ use Rattle.cs_types.specs.Room.{Opening}
 use Rattle.cs_types.specs.History.{History, file, history_of}
 use Rattle.cs_types.specs.Drain.{IsDrained}
 use Rattle.cs_types.proofs.Drains.{drained_alone}
-use Rattle.run_segments.specs.declared.segments.Stretch.{Stretch}
+use Rattle.run_segments.specs.declared.segments.Segment.{Segment}
 use Rattle.scenario_input.specs.declared.stop.Stop.{Stop}
 use Rattle.scenario_input.specs.declared.stop.Stop.TheVariants.{TooLong}
 use Rattle.scenario_input.specs.declared.stop.Stop.TheVariants as stops
@@ -177,9 +177,9 @@ ends_in_no_form Table caps source sink read stop has is same = ends_refused AreS
 ends_in_no_form Json caps source sink read stop has is same = ends_refused AreSegmentsOf segments_json_text caps source sink read stop has is same
 ends_in_no_form Picture caps source sink read stop has is same = ends_unshown caps source sink read stop has is same
 
--- these stretches of the run were written in a form, or the sink failed
-pub written_in_form : {K : Type 0} (form : Form) (opening : Opening) (steps : List Step) (sink : Used K) (ended : Status) (run : History) (stretches : List Stretch) →
-    IsDrained opening (history_of opening steps) run → AreSegmentsOf opening run stretches → IsFormWritten form stretches sink ended → MayWriteForm form opening steps sink ended
-written_in_form Table opening steps sink ended run stretches drained of_run written = inl (record { run = run; drained = drained; told = stretches; of_run = of_run; written = written })
-written_in_form Json opening steps sink ended run stretches drained of_run written = inl (record { run = run; drained = drained; told = stretches; of_run = of_run; written = written })
-written_in_form Picture opening steps sink ended run stretches drained of_run shown = shown
+-- these segments of the run were written in a form, or the sink failed
+pub written_in_form : {K : Type 0} (form : Form) (opening : Opening) (steps : List Step) (sink : Used K) (ended : Status) (run : History) (segments : List Segment) →
+    IsDrained opening (history_of opening steps) run → AreSegmentsOf opening run segments → IsFormWritten form segments sink ended → MayWriteForm form opening steps sink ended
+written_in_form Table opening steps sink ended run segments drained of_run written = inl (record { run = run; drained = drained; told = segments; of_run = of_run; written = written })
+written_in_form Json opening steps sink ended run segments drained of_run written = inl (record { run = run; drained = drained; told = segments; of_run = of_run; written = written })
+written_in_form Picture opening steps sink ended run segments drained of_run shown = shown

@@ -6,8 +6,8 @@ use Rattle.cs_types.specs.History.{History, file}
 use Rattle.cs_types.specs.Drain.{IsDrained}
 use Rattle.cs_outside.specs.Device.{appended, WritesPrefix}
 use Rattle.run_summary.specs.Summaries.{IsSummaryOf}
-use Rattle.run_segments.specs.declared.segments.Stretch.{Stretch}
-use Rattle.run_segments.specs.Segments.{stretches_of}
+use Rattle.run_segments.specs.declared.segments.Segment.{Segment}
+use Rattle.run_segments.specs.Segments.{segments_of}
 use Rattle.times_report.specs.Summary.{summary_text}
 use Rattle.segment_text.specs.Table.{segments_text}
 use Rattle.segment_text.specs.Json.{segments_json_text}
@@ -29,9 +29,9 @@ pub record IsTaken {S : Type 0} (caps : List ℕ) (source : Used S) (scenario : 
   pub taught : first_bad caps scenario.teaches ≡ None
   pub faultless : IsFaultless source
 
--- these are the stretches of a history, which its segments tell
-abbrev pub AreSegmentsOf : Opening → History → List Stretch → Type 0
-AreSegmentsOf opening history stretches = stretches ≡ stretches_of opening history
+-- these are the segments of a history
+abbrev pub AreSegmentsOf : Opening → History → List Segment → Type 0
+AreSegmentsOf opening history segments = segments ≡ segments_of opening history
 
 -- The input was read as a scenario, and this is told of a replay of it: what that is of a history, `IsOf` says.
 pub record IsTold {S T : Type 0} (IsOf : Opening → History → T → Type 0) (caps : List ℕ) (source : Used S) (told : T) : Type 0 where

@@ -5,7 +5,7 @@ use Rattle.cs_types.specs.Room.{Opening}
 use Rattle.cs_types.specs.History.{History, history_of}
 use Rattle.cs_types.specs.Drain.{IsDrained}
 use Rattle.cs_outside.specs.Device.{Rose}
-use Rattle.run_segments.specs.declared.segments.Stretch.{Stretch}
+use Rattle.run_segments.specs.declared.segments.Segment.{Segment}
 use Rattle.segment_text.specs.Table.{segments_text}
 use Rattle.segment_text.specs.Json.{segments_json_text}
 use Rattle.scenario_input.specs.declared.status.Status.{Status}
@@ -37,13 +37,13 @@ pub record IsShown {K : Type 0} (sink : Used K) (ended : Status) : Type 0 where
 
 -- ---- the forms
 
--- these stretches were written in a form, or the sink failed
-abbrev pub IsFormWritten : {K : Type 0} → Form → List Stretch → Used K → Status → Type 0
-IsFormWritten Table stretches sink ended = IsWritten sink (segments_text stretches) ended
-IsFormWritten Json stretches sink ended = IsWritten sink (segments_json_text stretches) ended
-IsFormWritten Picture stretches sink ended = IsShown sink ended
+-- these segments were written in a form, or the sink failed
+abbrev pub IsFormWritten : {K : Type 0} → Form → List Segment → Used K → Status → Type 0
+IsFormWritten Table segments sink ended = IsWritten sink (segments_text segments) ended
+IsFormWritten Json segments sink ended = IsWritten sink (segments_json_text segments) ended
+IsFormWritten Picture segments sink ended = IsShown sink ended
 
--- the steps were made, and then the entries of the end, and the stretches of that run were written in a form
+-- the steps were made, and then the entries of the end, and the segments of that run were written in a form
 abbrev pub MayWriteForm : {K : Type 0} → Form → Opening → List Step → Used K → Status → Type 0
 MayWriteForm Table opening steps sink ended = MayWriteTold AreSegmentsOf segments_text opening steps sink ended
 MayWriteForm Json opening steps sink ended = MayWriteTold AreSegmentsOf segments_json_text opening steps sink ended

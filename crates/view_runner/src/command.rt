@@ -18,7 +18,7 @@ use view_words::{Command, command_of};
 /// returns.
 ///
 /// With the word `summary` it writes for how long what was so, with `segments` and `segments-json` what each sibling did
-/// in each stretch of time, as a table and as lines of JSON, and with `picture` the same, drawn. Other words are refused.
+/// when, as a table and as lines of JSON, and with `picture` the same, drawn. Other words are refused.
 /// Both counts of faults have to be below 2^64 - 1. At most 16 guards are handed in, which refuse nobody yet and were never
 /// asked. The scenario teaches them before it is played, and they are dropped at the end. `R` is the machine that plays
 /// it.

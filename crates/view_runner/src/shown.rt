@@ -1,4 +1,4 @@
-//! The commands that show a run over time, once their words are read: what they write of its stretches.
+//! The commands that show a run over time, once their words are read: what they write of its segments.
 
 ghost use Rattle.std.specs.Prelude.{◌≡◌, ◌+◌, ◌-◌, ◌*◌, ◌^◌, ◌<◌, ◌≤◌, [], length, map, All, vec_len};
 ghost use Rattle.cs_types.specs.Scenario.{IsEvent};
@@ -11,7 +11,7 @@ use cs_outside::{Guard, Sink, Source};
 use cs_types::{Room, Step};
 use ptrace_check::{FromScenario, Guards};
 use run_picture::picture;
-use run_segments::{RunStretches, recorded_run};
+use run_segments::{RunSegments, recorded_run};
 use scenario_input::Status;
 use scenario_runner::opened;
 use segment_text::{segments, segments_json};
@@ -20,16 +20,16 @@ use std::alloc::Global;
 /// In which form a run is shown over time.
 #[derive(Clone, Copy)]
 pub(crate) enum Form {
-    /// A table with a line for each stretch.
+    /// A table with a line for each segment.
     Table,
-    /// A line of JSON for each stretch.
+    /// A line of JSON for each segment.
     Json,
     /// A picture.
     Picture,
 }
 
 /// Writes the table, and says how that ended.
-fn write_table<K: Sink>(run: &RunStretches, sink: &mut K) -> Status
+fn write_table<K: Sink>(run: &RunSegments, sink: &mut K) -> Status
     ensures { IsWritten (record { bytes = K.written; faults = K.faults; before = sink.old; after = sink.new })
         (segments_text run.now) result }
 {
@@ -37,14 +37,14 @@ fn write_table<K: Sink>(run: &RunStretches, sink: &mut K) -> Status
 }
 
 /// Writes the picture, and says how that ended.
-fn write_picture<K: Sink>(run: &RunStretches, sink: &mut K) -> Status
+fn write_picture<K: Sink>(run: &RunSegments, sink: &mut K) -> Status
     ensures { IsShown (record { bytes = K.written; faults = K.faults; before = sink.old; after = sink.new }) result }
 {
     Status::of_writing(picture(run, sink))
 }
 
 /// Writes the lines of JSON, and says how that ended.
-fn write_json<K: Sink>(run: &RunStretches, sink: &mut K) -> Status
+fn write_json<K: Sink>(run: &RunSegments, sink: &mut K) -> Status
     ensures { IsWritten (record { bytes = K.written; faults = K.faults; before = sink.old; after = sink.new })
         (segments_json_text run.now) result }
 {
@@ -52,7 +52,7 @@ fn write_json<K: Sink>(run: &RunStretches, sink: &mut K) -> Status
 }
 
 /// Writes what a run shows over time, in this form, and says how that ended.
-fn write_form<K: Sink>(form: Form, run: &RunStretches, sink: &mut K) -> Status
+fn write_form<K: Sink>(form: Form, run: &RunSegments, sink: &mut K) -> Status
     ensures { IsFormWritten form run.now
         (record { bytes = K.written; faults = K.faults; before = sink.old; after = sink.new }) result }
 {

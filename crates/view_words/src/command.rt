@@ -12,7 +12,7 @@ use std::alloc::Global;
 pub enum Command {
     /// `summary`: for how long what was so.
     Summary,
-    /// `segments`: what each sibling did in each stretch of time, as a table.
+    /// `segments`: what each sibling did when, as a table.
     Segments,
     /// `segments-json`: the same, as lines of JSON.
     SegmentsJson,

@@ -10,5 +10,5 @@ invariant-loop-step g l =
       history : room.history l.room ≡ history_of (room.opening l.fn.room) (take l.step-index l.steps);
       opening : room.opening l.room ≡ room.opening l.fn.room;
       spare : room.spare l.room + l.step-index ≡ room.spare l.fn.room;
-      record_of : IsRecordOf (room.opening l.room) (room.history l.room) l.recorder.stretches l.recorder.queued;
+      record_of : IsRecordOf (room.opening l.room) (room.history l.room) l.recorder.segments l.recorder.queued;
     }

@@ -9,5 +9,5 @@ returns-in-Ok g c =
     let run = g.R.Room.history c.recorded_run.new.room in
     written_in_form c.args.form _ _ _ _ run c.in-Ok.run'
     c.in-Ok.ensures.history
-    (subst (λ (o : Opening). AreSegmentsOf o run c.in-Ok.run') c.recorded_run.ensures.opening c.in-Ok.ensures.stretches)
+    (subst (λ (o : Opening). AreSegmentsOf o run c.in-Ok.run') c.recorded_run.ensures.opening c.in-Ok.ensures.segments)
     c.write_form.ensures

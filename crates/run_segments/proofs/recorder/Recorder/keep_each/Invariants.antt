@@ -10,11 +10,11 @@ invariant-loop-cpu g l =
     let opening = g.R.Room.opening l.room in
     let siblings = opening.scenario.siblings in
     let room = fold_of opening (g.R.Room.history l.room) in
-    let before = l.fn.self.stretches in
+    let before = l.fn.self.segments in
     record {
-      each : length l.self.stretches.places ≡ siblings;
+      each : length l.self.segments.places ≡ siblings;
       marks : AreMarksOf siblings room l.self.queued;
       -- the siblings so far have gone on over the span
       kept : (spans : List Span) (span : Span) → span.room ≡ room → span.room.clock ≡ l.from → l.from + span.time ≡ l.to → 0 < span.time →
-          total_time spans ≡ l.from → AreKept siblings spans before → IsAt siblings (last_span None spans) span before.stretches l.cpu l.self.stretches;
+          total_time spans ≡ l.from → AreKept siblings spans before → IsAt siblings (last_span None spans) span before.segments l.cpu l.self.segments;
     }
