@@ -1,13 +1,12 @@
 -- Benches: what it makes that guards are seated one after another.
 use Rattle.std.proofs.Common.{◌≡◌, ℕ, ◌+◌, ◌≤◌, List, [], ◌∷◌, ◌++◌, map, length, refl, ap, ◌∙◌, sym, append-nil, append_assoc, subst, arith}
-use Rattle.std.specs.Prelude.{All}
 use Rattle.std.specs.List.{range_with_len, AllByRecursion}
 use Rattle.std.proofs.lemmas.List.{length-map, map-append}
 use Rattle.std.proofs.lemmas.List.Sums.{count_by-le-length}
 use Rattle.std.proofs.lemmas.List.Elements.{recursion_from_All}
 use Rattle.cs_types.specs.declared.view.GuardPlace.TheVariants.{Bench}
 use Rattle.cs_types.specs.Guards.{GuardState, GuardList, is_bench, on_bench, guards_on_bench}
-use Rattle.ptrace_check.specs.Guards.{Seated, most_guards}
+use Rattle.ptrace_check.specs.Guards.{Seated, most_guards, AreFresh}
 use Rattle.ptrace_check.specs.Inside.{guards_in, AreKept}
 
 -- a guard that is seated on the bench
@@ -24,12 +23,12 @@ bench_from pairs asked cap at (guard ∷ list) untaught unasked =
     ap taught_so untaught.0 ∙ ap asked_so unasked.0
     ∙ ap (λ (guards : List GuardState). on_bench [] at ∷ guards) (bench_from pairs asked cap (at + 1) list untaught.1 unasked.1)
 
--- guards that were taught nothing and never asked, each seated on the bench
-pub guards_in-seated : {G : Type 0} (pairs : G → List (ℕ × ℕ)) (asked cap : G → ℕ) (list : List G) → All (λ guard. pairs guard ≡ []) list → All (λ guard. asked guard ≡ 0) list →
+-- fresh guards, each seated on the bench
+pub guards_in-seated : {G : Type 0} (pairs : G → List (ℕ × ℕ)) (asked cap : G → ℕ) (list : List G) → AreFresh pairs asked list →
     guards_in (map (seated pairs asked cap) list) [] ≡ guards_on_bench [] (length list)
-guards_in-seated {G} pairs asked cap list untaught unasked =
+guards_in-seated {G} pairs asked cap list fresh =
     let on_it : List GuardState → GuardList = λ all. record { all = all; active = [] } in
-    ap on_it (bench_from pairs asked cap 0 list (recursion_from_All (λ (guard : G). pairs guard ≡ []) list untaught) (recursion_from_All (λ (guard : G). asked guard ≡ 0) list unasked))
+    ap on_it (bench_from pairs asked cap 0 list (recursion_from_All (λ (guard : G). pairs guard ≡ []) list fresh.untaught) (recursion_from_All (λ (guard : G). asked guard ≡ 0) list fresh.unasked))
 
 -- what they can be taught
 pub caps-seated : {G : Type 0} (pairs : G → List (ℕ × ℕ)) (asked cap : G → ℕ) (list : List G) → map (λ (seat : Seated). seat.cap) (map (seated pairs asked cap) list) ≡ map cap list

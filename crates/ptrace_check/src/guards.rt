@@ -5,7 +5,7 @@ ghost use Rattle.std.specs.List.{list_all};
 ghost use Rattle.cs_types.specs.Guards.{guard_of, with_guard, guards_on_bench, load, unload, is_active, refuses, asked_once, asked_each, asked_until};
 ghost use Rattle.cs_types.specs.View.{guard_view};
 ghost use Rattle.ptrace_check.specs.Answers.{IsTeachAnswer, with_answer, load_answer, unload_answer, cap_without};
-ghost use Rattle.ptrace_check.specs.Guards.{most_guards, cap_of};
+ghost use Rattle.ptrace_check.specs.Guards.{most_guards, AreFresh, cap_of};
 ghost use Rattle.ptrace_check.specs.Inside.{guards_in};
 
 use crate::answer::{LoadAnswer, TeachAnswer, UnloadAnswer};
@@ -60,9 +60,7 @@ impl<G: Guard> Guards<G> {
     /// Puts the guards of the list on the bench, at most 16, which refuse nobody yet and were never
     /// asked. No later call takes memory but what a guard takes when it is taught.
     pub fn of(alloc: Global, list: Vec<G>) -> Result<Guards<G>, OutOfMemory>
-        requires few { vec_len list ≤ most_guards }
-        requires untaught { All (λ guard. G.pairs guard ≡ []) list.items }
-        requires unasked { All (λ guard. G.asked guard ≡ 0) list.items }
+        requires fresh { AreFresh G.pairs G.asked list.items }
         ensures guards { IfOk result (λ guards. guards.guards ≡ guards_on_bench [] (vec_len list)) }
         ensures caps { IfOk result (λ guards. guards.caps ≡ map G.cap list.items) }
     {

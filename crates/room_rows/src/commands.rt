@@ -1,7 +1,8 @@
 //! The commands: the stored run, words that are refused, the limit of the input on both sides, and a
 //! device that fails at each of its calls.
 
-ghost use Rattle.std.specs.Prelude.{◌≡◌, ◌<◌, ◌≤◌, [], All, vec_len};
+ghost use Rattle.std.specs.Prelude.{◌≡◌, ◌<◌};
+ghost use Rattle.ptrace_check.specs.Guards.{AreFresh};
 
 use command_words::{Command, command_of, drill_seed, is_replay};
 use core_state::CoreState;
@@ -111,9 +112,7 @@ pub fn run_over_trees<T: Threads + Wait + AllocGlobal + Sync, P: Gate + Sync, G:
 ) -> Status
     requires source { source.old.faults ≡ 0 }
     requires sink { sink.old.faults ≡ 0 }
-    requires few { vec_len guards ≤ 16 }
-    requires untaught { All (λ guard. G.pairs guard ≡ []) guards.items }
-    requires unasked { All (λ guard. G.asked guard ≡ 0) guards.items }
+    requires fresh { AreFresh G.pairs G.asked guards.items }
 {
     run::<CoreState<G>, T, MemSource, MemSink, P, G>(rt, words, source, sink, gate, guards)
 }

@@ -1,7 +1,8 @@
 //! Each guard that is handed in is let go once, however the command ends: guards that count their drops, over
 //! each status, for both commands.
 
-ghost use Rattle.std.specs.Prelude.{◌≡◌, ◌≤◌, [], All, vec_len};
+ghost use Rattle.std.specs.Prelude.{◌≡◌, All, vec_len};
+ghost use Rattle.ptrace_check.specs.Guards.{AreFresh};
 
 use crate::commands::{only, run_over_trees, sink_of, source_of, words_of};
 use crate::guards::{WORKED, counter, expect_drops, two_long};
@@ -78,9 +79,7 @@ fn expect_end<R: Threads + Wait + AllocGlobal + Sync + Abort, G: Guard + Send>(
     end: &End,
     guards: Vec<G>,
 )
-    requires few { vec_len guards ≤ 16 }
-    requires untaught { All (λ guard. G.pairs guard ≡ []) guards.items }
-    requires unasked { All (λ guard. G.asked guard ≡ 0) guards.items }
+    requires fresh { AreFresh G.pairs G.asked guards.items }
 {
     let words = words_of(rt.alloc(), texts).expect(rt, "room");
     let mut source = source_of(rt, end.text.as_bytes(), 65_536, only(rt, end.read));

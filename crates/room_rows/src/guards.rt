@@ -1,7 +1,8 @@
 //! Guards: what the commands write of them, teach lines that cannot be carried out, each public call, and
 //! guards of a stranger's.
 
-ghost use Rattle.std.specs.Prelude.{◌≡◌, ◌≤◌, [], All, vec_len};
+ghost use Rattle.std.specs.Prelude.{◌≡◌, All, vec_len};
+ghost use Rattle.ptrace_check.specs.Guards.{AreFresh};
 
 use crate::commands::{joined, sink_of, source_of, words_of};
 use crate::strangers::LongGuard;
@@ -20,8 +21,7 @@ use std::sync::atomic::{AtomicU64, Ordering};
 /// The four guards of the program.
 pub fn four<R: AllocGlobal + Abort>(rt: &R) -> Vec<PairGuard>
     ensures four { vec_len result ≡ 4 }
-    ensures untaught { All (λ guard. guard.pairs ≡ []) result.items }
-    ensures unasked { All (λ guard. guard.asked ≡ 0) result.items }
+    ensures fresh { AreFresh (λ guard. guard.pairs) (λ guard. guard.asked) result.items }
 {
     guards(rt).expect(rt, "room")
 }
@@ -34,9 +34,7 @@ fn expect_guarded<R: AllocGlobal + Abort, G: Guard>(
     wanted: Status,
     output: &[&str],
 )
-    requires few { vec_len guards ≤ 16 }
-    requires untaught { All (λ guard. G.pairs guard ≡ []) guards.items }
-    requires unasked { All (λ guard. G.asked guard ≡ 0) guards.items }
+    requires fresh { AreFresh G.pairs G.asked guards.items }
 {
     let mut source = source_of(rt, text, 65_536, Vec::new(rt.alloc()));
     let mut sink = sink_of(rt, 4096, Vec::new(rt.alloc()));
@@ -224,8 +222,7 @@ fn null_guard(rt: HostRuntime) {
 /// One guard that takes memory for its pairs, and can be taught one.
 fn listed<R: AllocGlobal + Abort>(rt: &R) -> Vec<ListGuard>
     ensures one { vec_len result ≡ 1 }
-    ensures untaught { All (λ guard. guard.pairs ≡ []) result.items }
-    ensures unasked { All (λ guard. guard.asked ≡ 0) result.items }
+    ensures fresh { AreFresh (λ guard. guard.pairs) (λ guard. guard.asked) result.items }
 {
     Vec::from_array(rt.alloc(), [ListGuard::with_cap(rt.alloc(), 1)]).expect(rt, "room")
 }
@@ -304,8 +301,7 @@ pub fn counter<R: AllocGlobal + Abort>(rt: &R) -> Arc<AtomicU64, Global> {
 /// Two guards of a stranger's, whose drops are counted there.
 pub fn two_long<R: AllocGlobal + Abort>(rt: &R, drops: &Arc<AtomicU64, Global>) -> Vec<LongGuard>
     ensures two { vec_len result ≡ 2 }
-    ensures untaught { All (λ guard. guard.pairs.items ≡ []) result.items }
-    ensures unasked { All (λ guard. guard.asked ≡ 0) result.items }
+    ensures fresh { AreFresh (λ guard. guard.pairs.items) (λ guard. guard.asked) result.items }
 {
     let guards = [
         LongGuard::empty(rt.alloc(), Arc::try_clone(drops).expect(rt, "a reference")),

@@ -1,8 +1,9 @@
 //! What a scenario teaches the guards that were handed in.
 
-ghost use Rattle.std.specs.Prelude.{◌≡◌, ◌≤◌, List, [], All, None, OnOk, IfOk, IfErr, map, length, vec_len};
+ghost use Rattle.std.specs.Prelude.{◌≡◌, List, None, OnOk, IfOk, IfErr, map, length, vec_len};
 ghost use Rattle.cs_types.specs.declared.scenario.Teach.{Teach as SomeTeach};
 ghost use Rattle.cs_types.specs.Guards.{guards_on_bench};
+ghost use Rattle.ptrace_check.specs.Guards.{AreFresh};
 ghost use Rattle.scenario_input.specs.Teaching.{fault_of, noted, first_bad, Teaches, IsTeachStop};
 
 use crate::stop::{GuardKind, Stop};
@@ -38,9 +39,7 @@ fn teach<G: Guard>(guards: &mut Guards<G>, teach: &Teach) -> Result<(), Stop>
 /// The guards on the bench, each with the pairs of its lines. `BadGuard` names the first line that cannot be
 /// carried out.
 pub fn taught<G: Guard>(alloc: Global, list: Vec<G>, teaches: &[Teach]) -> Result<Guards<G>, Stop>
-    requires few { vec_len list ≤ 16 }
-    requires untaught { All (λ guard. G.pairs guard ≡ []) list.items }
-    requires unasked { All (λ guard. G.asked guard ≡ 0) list.items }
+    requires fresh { AreFresh G.pairs G.asked list.items }
 
     ensures taught { IfOk result (λ guards. guards.guards ≡ guards_on_bench teaches.now (vec_len list)) }
     ensures all { IfOk result (λ guards. first_bad (map G.cap list.items) teaches.now ≡ None) }

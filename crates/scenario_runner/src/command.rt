@@ -1,9 +1,10 @@
 //! The commands, each by its words.
 
-ghost use Rattle.std.specs.Prelude.{◌≡◌, ◌↔◌, ℕ, ◌-◌, ◌^◌, ◌<◌, ◌≤◌, [], map, All, vec_len};
+ghost use Rattle.std.specs.Prelude.{◌≡◌, ◌↔◌, ℕ, ◌-◌, ◌^◌, ◌<◌, map};
 ghost use Rattle.command_words.specs.declared.command.Command.{Command as SomeCommand};
 ghost use Rattle.command_words.specs.declared.command.Command.TheVariants.{Replay, Drill};
 ghost use Rattle.command_words.specs.Asks.{Asks};
+ghost use Rattle.ptrace_check.specs.Guards.{AreFresh};
 ghost use Rattle.scenario_runner.specs.Ends.{EndsAsReplay, EndsAsDrill, EndsBy};
 
 use crate::drilled::drilled;
@@ -31,9 +32,7 @@ pub fn replay<R: FromScenario<Guards<G>>, S: Source, K: Sink, G: Guard>(
 ) -> Status
     requires source { S.faults source.old < 2 ^ 64 - 1 }
     requires sink { K.faults sink.old < 2 ^ 64 - 1 }
-    requires few { vec_len guards ≤ 16 }
-    requires untaught { All (λ guard. G.pairs guard ≡ []) guards.items }
-    requires unasked { All (λ guard. G.asked guard ≡ 0) guards.items }
+    requires fresh { AreFresh G.pairs G.asked guards.items }
 
     // When each status comes, what was read for it, and what was written.
     ensures ends { Asks Replay words.now → EndsAsReplay (map G.cap guards.items)
@@ -97,9 +96,7 @@ pub fn run<
 >(rt: &T, words: &[String], source: &mut S, sink: &mut K, gate: &P, guards: Vec<G>) -> Status
     requires source { S.faults source.old < 2 ^ 64 - 1 }
     requires sink { K.faults sink.old < 2 ^ 64 - 1 }
-    requires few { vec_len guards ≤ 16 }
-    requires untaught { All (λ guard. G.pairs guard ≡ []) guards.items }
-    requires unasked { All (λ guard. G.asked guard ≡ 0) guards.items }
+    requires fresh { AreFresh G.pairs G.asked guards.items }
 
     // When each status comes, what was read for it, and what was written, by the command of the words.
     ensures ends { (command : SomeCommand) → Asks command words.now → EndsBy command (map G.cap guards.items)

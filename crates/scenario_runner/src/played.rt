@@ -1,8 +1,9 @@
 //! The commands that play an input, once their words are read.
 
-ghost use Rattle.std.specs.Prelude.{◌≡◌, ◌≢◌, ◌⊎◌, ◌↔◌, ◌+◌, ◌-◌, ◌*◌, ◌^◌, ◌<◌, ◌≤◌, [], length, map, All, Err, None, IfOk, IfSome, vec_len};
+ghost use Rattle.std.specs.Prelude.{◌≡◌, ◌≢◌, ◌⊎◌, ◌↔◌, ◌+◌, ◌-◌, ◌*◌, ◌^◌, ◌<◌, ◌≤◌, [], length, map, All, Err, None, IfOk, IfSome};
 ghost use Rattle.cs_types.specs.Scenario.{IsEvent, IsPlayable};
 ghost use Rattle.cs_outside.specs.Device.{Rose};
+ghost use Rattle.ptrace_check.specs.Guards.{AreFresh};
 ghost use Rattle.scenario_text.specs.Faults.{lines_in, IsFirstBad};
 ghost use Rattle.scenario_input.specs.Input.{Reads, IsBad, input_limit, count_read};
 ghost use Rattle.scenario_input.specs.Teaching.{first_bad};
@@ -27,9 +28,7 @@ pub fn opened<R: FromScenario<Guards<G>>, S: Source, G: Guard>(
     source: &mut S,
     guards: Vec<G>,
 ) -> Result<(Scenario, R), Stop>
-    requires few { vec_len guards ≤ 16 }
-    requires untaught { All (λ guard. G.pairs guard ≡ []) guards.items }
-    requires unasked { All (λ guard. G.asked guard ≡ 0) guards.items }
+    requires fresh { AreFresh G.pairs G.asked guards.items }
 
     ensures reads { IfOk result (λ opened. Reads opened.0 (S.left source.old) (S.left source.new)) }
     ensures taught { IfOk result (λ opened. first_bad (map G.cap guards.items) opened.0.teaches ≡ None) }
@@ -93,9 +92,7 @@ pub(crate) fn replayed<R: FromScenario<Guards<G>>, S: Source, K: Sink, G: Guard>
 ) -> Status
     requires source { S.faults source.old < 2 ^ 64 - 1 }
     requires sink { K.faults sink.old < 2 ^ 64 - 1 }
-    requires few { vec_len guards ≤ 16 }
-    requires untaught { All (λ guard. G.pairs guard ≡ []) guards.items }
-    requires unasked { All (λ guard. G.asked guard ≡ 0) guards.items }
+    requires fresh { AreFresh G.pairs G.asked guards.items }
 
     ensures { EndsAsReplay (map G.cap guards.items)
         (record { bytes = S.left; faults = S.faults; before = source.old; after = source.new })
@@ -143,9 +140,7 @@ pub(crate) fn raced<
 >(rt: &T, source: &mut S, sink: &mut K, gate: &P, guards: Vec<G>) -> Status
     requires source { S.faults source.old < 2 ^ 64 - 1 }
     requires sink { K.faults sink.old < 2 ^ 64 - 1 }
-    requires few { vec_len guards ≤ 16 }
-    requires untaught { All (λ guard. G.pairs guard ≡ []) guards.items }
-    requires unasked { All (λ guard. G.asked guard ≡ 0) guards.items }
+    requires fresh { AreFresh G.pairs G.asked guards.items }
 
     ensures { EndsAsRace (map G.cap guards.items)
         (record { bytes = S.left; faults = S.faults; before = source.old; after = source.new })

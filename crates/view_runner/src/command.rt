@@ -1,8 +1,9 @@
 //! The commands, each by its word.
 
-ghost use Rattle.std.specs.Prelude.{◌≡◌, ◌↔◌, ◌-◌, ◌^◌, ◌<◌, ◌≤◌, [], map, All, vec_len};
+ghost use Rattle.std.specs.Prelude.{◌≡◌, ◌↔◌, ◌-◌, ◌^◌, ◌<◌, map};
 ghost use Rattle.view_words.specs.declared.command.Command.{Command as SomeCommand};
 ghost use Rattle.view_words.specs.Asks.{Asks};
+ghost use Rattle.ptrace_check.specs.Guards.{AreFresh};
 ghost use Rattle.view_runner.specs.Ends.{EndsBy};
 
 use crate::played::summarized;
@@ -31,9 +32,7 @@ pub fn run<R: FromScenario<Guards<G>>, S: Source, K: Sink, G: Guard>(
 ) -> Status
     requires source { S.faults source.old < 2 ^ 64 - 1 }
     requires sink { K.faults sink.old < 2 ^ 64 - 1 }
-    requires few { vec_len guards ≤ 16 }
-    requires untaught { All (λ guard. G.pairs guard ≡ []) guards.items }
-    requires unasked { All (λ guard. G.asked guard ≡ 0) guards.items }
+    requires fresh { AreFresh G.pairs G.asked guards.items }
 
     // When each status comes, what was read for it, and what was written, by the command of the words.
     ensures ends { (command : SomeCommand) → Asks command words.now → EndsBy command (map G.cap guards.items)

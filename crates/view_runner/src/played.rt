@@ -1,7 +1,8 @@
 //! The command that tells the summary of a run, once its words are read.
 
-ghost use Rattle.std.specs.Prelude.{◌≡◌, ◌+◌, ◌-◌, ◌*◌, ◌^◌, ◌<◌, ◌≤◌, [], length, map, All, vec_len};
+ghost use Rattle.std.specs.Prelude.{◌≡◌, ◌+◌, ◌-◌, ◌*◌, ◌^◌, ◌<◌, ◌≤◌, [], length, map, All};
 ghost use Rattle.cs_types.specs.Scenario.{IsEvent};
+ghost use Rattle.ptrace_check.specs.Guards.{AreFresh};
 ghost use Rattle.run_summary.specs.Summaries.{IsSummaryOf};
 ghost use Rattle.times_report.specs.Summary.{summary_text};
 ghost use Rattle.scenario_runner.specs.Written.{IsWritten};
@@ -53,9 +54,7 @@ pub(crate) fn summarized<R: FromScenario<Guards<G>>, S: Source, K: Sink, G: Guar
 ) -> Status
     requires source { S.faults source.old < 2 ^ 64 - 1 }
     requires sink { K.faults sink.old < 2 ^ 64 - 1 }
-    requires few { vec_len guards ≤ 16 }
-    requires untaught { All (λ guard. G.pairs guard ≡ []) guards.items }
-    requires unasked { All (λ guard. G.asked guard ≡ 0) guards.items }
+    requires fresh { AreFresh G.pairs G.asked guards.items }
 
     ensures { EndsAsTold IsSummaryOf summary_text (map G.cap guards.items)
         (record { bytes = S.left; faults = S.faults; before = source.old; after = source.new })

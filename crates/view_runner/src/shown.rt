@@ -1,7 +1,8 @@
 //! The commands that show a run over time, once their words are read: what they write of its segments.
 
-ghost use Rattle.std.specs.Prelude.{◌≡◌, ◌+◌, ◌-◌, ◌*◌, ◌^◌, ◌<◌, ◌≤◌, [], length, map, All, vec_len};
+ghost use Rattle.std.specs.Prelude.{◌≡◌, ◌+◌, ◌-◌, ◌*◌, ◌^◌, ◌<◌, ◌≤◌, [], length, map, All};
 ghost use Rattle.cs_types.specs.Scenario.{IsEvent};
+ghost use Rattle.ptrace_check.specs.Guards.{AreFresh};
 ghost use Rattle.segment_text.specs.Table.{segments_text};
 ghost use Rattle.segment_text.specs.Json.{segments_json_text};
 ghost use Rattle.scenario_runner.specs.Written.{IsWritten};
@@ -97,9 +98,7 @@ pub(crate) fn shown<R: FromScenario<Guards<G>>, S: Source, K: Sink, G: Guard>(
 ) -> Status
     requires source { S.faults source.old < 2 ^ 64 - 1 }
     requires sink { K.faults sink.old < 2 ^ 64 - 1 }
-    requires few { vec_len guards ≤ 16 }
-    requires untaught { All (λ guard. G.pairs guard ≡ []) guards.items }
-    requires unasked { All (λ guard. G.asked guard ≡ 0) guards.items }
+    requires fresh { AreFresh G.pairs G.asked guards.items }
 
     ensures { EndsInForm form (map G.cap guards.items)
         (record { bytes = S.left; faults = S.faults; before = source.old; after = source.new })

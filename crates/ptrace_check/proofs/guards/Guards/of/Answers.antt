@@ -9,7 +9,7 @@ returns-clause-guards g c =
     let rest = c.loop-guard.guard-iterator.rest in
     let all = none_left c.loop-guard.yielded rest.items c.args.list.items c.loop-guard.invariant.parts (sym rest.ok.0 ∙ c.in-None.ensures.steps.0) in
     rw (c.loop-guard.invariant.seats, all, c.in_ok-active.ensures.items, c.args.list.ok.0)
-    (guards_in-seated g.G.Guard.pairs g.G.Guard.asked g.G.Guard.cap c.args.list.items c.requires.untaught c.requires.unasked)
+    (guards_in-seated g.G.Guard.pairs g.G.Guard.asked g.G.Guard.cap c.args.list.items c.requires.fresh)
 
 pub returns-clause-caps : goal.returns-clause-caps
 returns-clause-caps g c =
@@ -56,4 +56,4 @@ invariant_of-result g c =
     rw (c.loop-guard.invariant.seats, all)
     (AreKept-idle (map (seated g.G.Guard.pairs g.G.Guard.asked g.G.Guard.cap) c.args.list.items) c.in_ok-active.active.items _ c.in_ok-active.ensures.items
     (omega (arith, long, c.in_ok-active.ensures.capacity, c.len.ensures, c.args.list.ok.0))
-    (omega (arith, long, c.args.list.ok.0, c.requires.few)))
+    (omega (arith, long, c.requires.fresh.few)))
