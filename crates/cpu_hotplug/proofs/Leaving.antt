@@ -37,10 +37,10 @@ moved_is old now cpu to stamp task moved same to_is is on stamp_is =
     ∙ sym (cond-true (is_on cpu task) _ task on)
 
 -- and what is not there does not move
-stays : (room : RoomState) (cpu : ℕ) (task : Task) → is_on cpu task ≡ false → moved_off room cpu task ≡ task
+pub stays : (room : RoomState) (cpu : ℕ) (task : Task) → is_on cpu task ≡ false → moved_off room cpu task ≡ task
 stays room cpu task off = cond-false (is_on cpu task) _ task off
 
-keeps_pid : (room : RoomState) (cpu : ℕ) (task : Task) → (moved_off room cpu task).spec.pid ≡ task.spec.pid
+pub keeps_pid : (room : RoomState) (cpu : ℕ) (task : Task) → (moved_off room cpu task).spec.pid ≡ task.spec.pid
 keeps_pid room cpu task = elim (cases_Bool (is_on cpu task)) [
   | inl on ↦ ap (λ (t : Task). t.spec.pid) (cond-true (is_on cpu task) _ task on)
   | inr off ↦ ap (λ (t : Task). t.spec.pid) (stays room cpu task off)

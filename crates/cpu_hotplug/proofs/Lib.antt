@@ -1,5 +1,7 @@
 mod Ranks
 mod Leaving
+mod Past
+mod Sleeping
 mod Steps
 mod Moving
 mod Each

@@ -8,7 +8,7 @@ use Rattle.task_table.specs.Table.{Table}
 use Rattle.core_lanes.specs.declared.queue.SiblingQueue.{Ghosts}
 use Rattle.core_lanes.specs.declared.lane.Lane.{Lane}
 use Rattle.core_lanes.specs.declared.lanes.Core.{Core}
-use Rattle.core_lanes.specs.Queued.{queued_among}
+use Rattle.core_lanes.specs.Queued.{queued_among, IsOf}
 use Rattle.core_lanes.specs.Lanes.{Beside, lane_state, room_of, Agree, HasLowTimes, MayTell}
 
 -- a sibling is another after this change, with its own number and its queue
@@ -42,7 +42,23 @@ pub record MayMoveAllTo {Q : Type 0} {g : Ghosts Q} (sibling to : ℕ) (movers :
   pub within : to < length both.0.lanes.items
   pub tell : MayTell sibling both movers
 
--- their queue may move as it is: none is queued on the other sibling, and no fair task is behind the least virtual time of its own
+-- no fair task queued on the sibling is behind the least virtual time of its own
+abbrev pub AreAhead : {Q : Type 0} {g : Ghosts Q} → ℕ → Core Q g × Table → Type 0
+AreAhead sibling both = (beside : Beside) → NoneBehind (sibling_of (room_of beside both) sibling).least (queued_among both.1.tasks sibling)
+
+-- so their queue may move as it is where none is queued on the other sibling
 pub record MovesWhole {Q : Type 0} {g : Ghosts Q} (sibling to : ℕ) (both : Core Q g × Table) : Type 0 where
   pub empty : queued_among both.1.tasks to ≡ []
-  pub ahead : (beside : Beside) → NoneBehind (sibling_of (room_of beside both) sibling).least (queued_among both.1.tasks sibling)
+  pub ahead : AreAhead sibling both
+
+-- the task is one of the list, and queued on the sibling
+pub record IsQueuedAt (sibling : ℕ) (tasks : List Task) (task : Task) : Type 0 where
+  pub there : IsOf tasks task
+  pub queued : IsTrue task.queued
+  pub home : task.home ≡ sibling
+
+-- they may move past those that are queued on the other sibling, so many
+pub record MayMovePast {Q : Type 0} {g : Ghosts Q} (sibling other stay : ℕ) (movers : List ℕ) (both : Core Q g × Table) : Type 0 where
+  pub all : MayMoveAllTo sibling other movers both
+  pub ahead : AreAhead sibling both
+  pub staying : stay ≡ length (queued_among both.1.tasks other)

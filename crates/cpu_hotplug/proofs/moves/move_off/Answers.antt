@@ -1,4 +1,4 @@
-use Rattle.std.proofs.Common.{◌≡◌, ◌+◌, ◌<◌, ◌≤◌, ℕ, List, refl, sym, subst, ap, ◌∙◌, arith, length, take}
+use Rattle.std.proofs.Common.{◌*◌, ◌≡◌, ◌+◌, ◌<◌, ◌≤◌, ℕ, List, refl, sym, subst, ap, ◌∙◌, arith, length, take, ◌/◌}
 use Rattle.std.proofs.Math.Nat.{add-mul, mul-le-mul_right}
 use Rattle.std.proofs.lemmas.List.{length-take-le}
 use Rattle.cs_types.specs.Room.{RoomState}
@@ -6,7 +6,9 @@ use Rattle.task_table.specs.Table.{Table}
 use Rattle.core_lanes.specs.declared.queue.SiblingQueue.{Ghosts}
 use Rattle.core_lanes.specs.declared.lanes.Core.{Core}
 use Rattle.core_lanes.specs.Queued.{queued_among}
-use Rattle.core_lanes.specs.Lanes.{room_of, Agree, MayTell}
+use Rattle.cs_types.specs.Hotplug.{lowest_other}
+use Rattle.core_lanes.specs.Lanes.{Beside, room_of, Agree, MayTell}
+use Rattle.cpu_hotplug.specs.Leaves.{MayMoveOff, MayMoveAllTo}
 use Rattle.core_lanes.specs.Numbers.{Numbers, numbers_of}
 use Rattle.core_lanes.proofs.Stays.{same_stays}
 use Rattle.core_lanes.proofs.Counted.{few_queued}
@@ -44,6 +46,11 @@ module _ {Q : Type 0} {g : Ghosts Q} (both : Core Q g × Table) (cpu count : ℕ
         each = length-take-le count places (subst (λ n. count ≤ n) (sym all) within) ∙ is;
       }
 
+  may_all : (places : List ℕ) → length places ≡ 256 → (to : ℕ) → MayMoveOff cpu both → ((beside : Beside) (tasks : Table) → to ≡ lowest_other (room_of beside (both.0, tasks)) cpu) →
+      to < length both.0.lanes.items → MayMoveAllTo cpu to (take count places) both
+  may_all places all to off lowest inside =
+      record { may = off.may; another = off.another; lowest = lowest; within = inside; tell = may_tell places all off.may.cpu }
+
 pub slice_bounds-places-end : goal.slice_bounds-places-end
 slice_bounds-places-end g c = within (c.args.core.now, c.args.table.now) c.args.cpu c.count-count.result c.requires.may.agree c.count-count.ensures
 
@@ -53,35 +60,29 @@ slice_bounds-movers-end g c =
 
 -- ---- where they move with their queue
 
-pub move_queue-requires : goal.move_queue-requires
-move_queue-requires g c = record {
-  to = record {
-    may = c.requires.may;
-    another = c.requires.another;
-    lowest = λ beside table. c.lowest_other-to.ensures.lowest beside table;
-    within = c.lowest_other-to.ensures.within;
-    tell = may_tell (c.args.core.now, c.args.table.now) c.args.cpu c.count-count.result c.requires.may.agree c.count-count.ensures _ refl c.requires.may.cpu;
-  };
-  whole = c.may_exchange.ensures.whole c.if-may_exchange.true;
+pub move_past-requires : goal.move_past-requires
+move_past-requires g c = record {
+  all = may_all (c.args.core.now, c.args.table.now) c.args.cpu c.count-count.result c.requires.may.agree c.count-count.ensures _ refl c.lowest_other-to.result c.requires
+      c.lowest_other-to.ensures.lowest c.lowest_other-to.ensures.within;
+  ahead = c.are_ahead.ensures.ahead c.if-are_ahead.true;
+  staying = c.count-stay.ensures;
 }
 
 -- ---- or one by one
 
 pub move_each-requires : goal.move_each-requires
-move_each-requires g c = record {
-  may = c.requires.may;
-  another = c.requires.another;
-  lowest = λ beside table. c.lowest_other-to.ensures.lowest beside table;
-  within = c.lowest_other-to.ensures.within;
-  tell = may_tell (c.args.core.now, c.args.table.now) c.args.cpu c.count-count.result c.requires.may.agree c.count-count.ensures _ refl c.requires.may.cpu;
-}
+move_each-requires g c =
+    may_all (c.args.core.now, c.args.table.now) c.args.cpu c.count-count.result c.requires.may.agree c.count-count.ensures _ refl c.lowest_other-to.result c.requires
+    c.lowest_other-to.ensures.lowest c.lowest_other-to.ensures.within
 
 -- ---- the comparisons
 
--- a queue that may move as it is has many tasks
-pub returns-then-may_exchange-clause-counted : goal.returns-then-may_exchange-clause-counted
-returns-then-may_exchange-clause-counted g c =
+-- far more come than stay
+pub returns-then-are_ahead-clause-counted : goal.returns-then-are_ahead-clause-counted
+returns-then-are_ahead-clause-counted g c =
     let tasks = c.args.table.now.tasks in
     let most = g.Q.SiblingQueue.most_compared (length tasks) in
-    let several : 3 ≤ length tasks = omega (arith, c.if-count-ge-MANY.true, c.count-count.ensures, few_queued tasks c.args.cpu) in
-    omega (arith, c.may_exchange.ensures.counted, c.move_queue.ensures.counted, mul-le-mul_right most several, add-mul (length tasks) 1 most)
+    let calls = 5 * c.count-stay.result + 3 in
+    let few : c.count-stay.result ≤ c.count-count.result / 8 = c.if-stay-count.true in
+    let within : calls ≤ length tasks = omega (arith, c.if-count-ge-MANY.true, few, c.count-count.ensures, few_queued tasks c.args.cpu) in
+    omega (arith, c.are_ahead.ensures.counted, c.move_past.ensures.counted, mul-le-mul_right most within, add-mul (length tasks) 1 most)
