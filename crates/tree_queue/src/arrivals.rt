@@ -1,9 +1,9 @@
 //! The tasks that came to a queue, in the order in which they came. It is apart, since it is a hint: what it tells is
 //! looked up in the table, and nothing that is promised rests on what it keeps.
 
-ghost use Rattle.std.specs.Prelude.{◌≡◌, ◌+◌, ◌^◌, ◌<◌, ◌≤◌, false, [], length, map, Contains, IsTrue};
+ghost use Rattle.std.specs.Prelude.{◌≡◌, ◌+◌, ◌^◌, ◌<◌, ◌≤◌, false, length, map, Contains, IsTrue};
 ghost use Rattle.core_lanes.specs.Queued.{queued_among, mover_of, AreTold};
-ghost use Rattle.tree_queue.specs.Arrivals.{AreAmong, AreBelow};
+ghost use Rattle.tree_queue.specs.Arrivals.{AreBelow};
 
 use arrayvec::ArrayVec;
 use core_lanes::{MOST_TASKS, is_on};
@@ -21,7 +21,8 @@ pub struct Arrivals {
     moved: Vec<Pid>,
     /// The stamp of the first of these. Those of the others follow in a row.
     base: u64,
-    /// The stamps and the pids of those that came one by one since.
+    /// The stamps and the pids of those that came one by one since, by rising stamp. Of these the first may be lower than
+    /// those of the moved ones: such a task was there before these, left and came back.
     entries: Vec<(u64, Pid)>,
 }
 
@@ -41,9 +42,18 @@ impl Arrivals {
     pub fn note(&mut self, stamp: u64, pid: Pid) {
         if self.entries.len() < self.entries.capacity() {
             self.entries.push_reserved((stamp, pid));
+            sift(&mut self.entries);
         } else {
             self.entries.clear();
         }
+    }
+
+    /// How many of those that came one by one have lower stamps than those that moved.
+    fn behind(&self) -> usize
+        ensures { result ≤ length self.now.entries.items }
+    {
+        let base = self.base;
+        self.entries.partition_point(|entry| entry.0 < base)
     }
 
     /// None is kept any more.
@@ -78,14 +88,26 @@ impl Arrivals {
         let Some(past) = self.base.checked_add(self.moved.len() as u64) else {
             return false;
         };
+        let (back, new) = self.entries.split_at(self.behind());
         let mut told = Movers::new();
+        tell_entries(back, 0, self.base, table, cpu, count, &mut told);
         tell_moved(&self.moved, self.base, table, cpu, &mut told);
-        tell_entries(&self.entries, past, table, cpu, count, &mut told);
+        tell_entries(new, past, u64::MAX, table, cpu, count, &mut told);
         if told.len() == count {
             movers.copy_from_slice(&told);
             return true;
         }
         false
+    }
+}
+
+/// The last entry goes before those that have greater stamps, which seldom are there.
+#[inline(always)]
+fn sift(entries: &mut [(u64, Pid)]) {
+    let mut place = entries.len();
+    while place > 1 && entries[place - 1].0 < entries[place - 2].0 {
+        entries.swap(place - 2, place - 1);
+        place -= 1;
     }
 }
 
@@ -100,10 +122,11 @@ fn first_stamp(table: &TaskTable, movers: &[Pid]) -> u64 {
     }
 }
 
-/// Tells those of the tasks that are queued on the sibling since they moved, in a list that has none yet. The first got
-/// the stamp `base` then, and those of the others follow in a row. It tells no more than the list can take.
+/// Tells those of the tasks that are queued on the sibling since they moved, behind those that are told already, whose
+/// stamps are below. The first got the stamp `base` then, and those of the others follow in a row. It tells no more than the
+/// list can take.
 fn tell_moved(moved: &[Pid], base: u64, table: &TaskTable, cpu: Cpu, movers: &mut Movers)
-    requires none { movers.old.items ≡ [] }
+    requires lower { AreBelow (map mover_of (queued_among table.now.tasks cpu)) base movers.old.items }
     requires low { base + length moved.now < 2 ^ 64 }
     ensures below { AreBelow (map mover_of (queued_among table.now.tasks cpu)) (base + length moved.now) movers.new.items }
 {
@@ -115,24 +138,30 @@ fn tell_moved(moved: &[Pid], base: u64, table: &TaskTable, cpu: Cpu, movers: &mu
 }
 
 /// Tells those of the entries that are tasks queued on the sibling since then, by rising stamp, behind those that are
-/// told already, whose stamps are below `past`. It tells no more than `most` in all.
+/// told already, whose stamps are below `past`. It tells none with a stamp from `until` on, and no more than `most` in all.
 fn tell_entries(
     entries: &[(u64, Pid)],
     past: u64,
+    until: u64,
     table: &TaskTable,
     cpu: Cpu,
     most: usize,
     movers: &mut Movers,
 )
     requires below { AreBelow (map mover_of (queued_among table.now.tasks cpu)) past movers.old.items }
+    requires order { past ≤ until }
     requires few { most ≤ 256 }
-    ensures among { AreAmong (map mover_of (queued_among table.now.tasks cpu)) movers.new.items }
+    ensures below { AreBelow (map mover_of (queued_among table.now.tasks cpu)) until movers.new.items }
 {
     let mut above = past;
     for entry in entries.iter() {
         let (stamp, pid) = *entry;
         let next = after(stamp);
-        if movers.len() < most && above < next && is_there(table, cpu, stamp, pid) {
+        if movers.len() < most
+            && above < next
+            && next <= until
+            && is_there(table, cpu, stamp, pid)
+        {
             movers.push(pid);
             above = next;
         }

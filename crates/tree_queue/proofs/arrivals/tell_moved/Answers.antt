@@ -1,14 +1,14 @@
 use Rattle.std.proofs.Common.{◌≡◌, ◌+◌, [], ◌∷◌, ◌++◌, map, length, get_or, sym, ap, ◌∙◌, subst, arith}
 use Rattle.core_lanes.specs.Queued.{queued_among, mover_of}
 use Rattle.tree_queue.specs.Arrivals.{AreBelow}
-use Rattle.tree_queue.proofs.Told.{none_below, below_more, below_later}
+use Rattle.tree_queue.proofs.Told.{below_more, below_later}
 use Rattle.tree_queue.proofs.arrivals.tell_moved.Goals as goal
 use Rattle.tree_queue.proofs.arrivals.tell_moved.Goals.{then-len-lt-MOST_TASKS+then-is_there, else-len-lt-MOST_TASKS}
 
 pub loop-place-init : goal.loop-place-init
 loop-place-init c =
     let all = map mover_of (queued_among c.args.table.now.tasks c.args.cpu) in
-    record { below = subst (AreBelow all (c.args.base + 0)) (sym c.requires.none) (none_below all (c.args.base + 0)) }
+    record { below = below_later all c.args.base (c.args.base + 0) c.args.movers.now.items (omega arith) c.requires.lower }
 
 pub loop-place-preserved : goal.loop-place-preserved
 loop-place-preserved c =
