@@ -84,11 +84,6 @@ AgreeBut-make refs made tasks cookie above unused counts agree other =
     let now = counts other in
     grind (arith, nat_tests)
 
--- A cookie that was got is held beside the tasks.
-pub AgreeBut-get : (refs got : Refs) (tasks : List Task) (cookie : ℕ) →
-    ((other : ℕ) → count_of got other ≡ count_of refs other + references cookie other) → Agree refs tasks → AgreeBut got tasks cookie
-AgreeBut-get refs got tasks cookie counts agree other = omega (arith, counts other, agree other, references_none other)
-
 -- Once the held cookie is put, the counts are those of the tasks.
 pub Agree-put : (refs put : Refs) (tasks : List Task) (held : ℕ) →
     ((other : ℕ) → count_of put other + references held other ≡ count_of refs other) → AgreeBut refs tasks held → Agree put tasks

@@ -1,15 +1,14 @@
 -- Lists: what filters, searches and scans of a list say of the list that it stands for.
-use Rattle.std.proofs.Common.{◌≡◌, ltb, ℕ, zero, suc, ◌+◌, ◌<◌, Bool, true, false, cond, List, [], ◌∷◌, ◌++◌, map, refl, sym, ap, ◌∙◌, length, take, drop, set, get_or, arith, add-one, Some, ◌≤◌, length-append, length-drop, length-take}
+use Rattle.std.proofs.Common.{◌≡◌, ltb, ℕ, zero, suc, ◌+◌, ◌<◌, Bool, true, false, cond, List, [], ◌∷◌, ◌++◌, map, refl, sym, ap, ◌∙◌, length, take, drop, set, get_or, arith, add-one, Some, ◌≤◌}
 use Rattle.std.specs.Prelude.{filter, find, count_by, is_some, ◌&&◌, ◌||◌, All, IfSome, Contains}
 use Rattle.std.specs.List.{enumerate_from, range_with_len, list_any}
 use Rattle.std.specs.Cmp.{IsStrictWeakOrder}
 use Rattle.std.proofs.lemmas.Bool.Decides.{nat_tests}
 use Rattle.std.specs.Global.{Vec}
 use Rattle.std.specs.Vec.{with_items}
-use Rattle.std.proofs.lemmas.List.{length-map, with_items_is, get_or_default}
+use Rattle.std.proofs.lemmas.List.{length-map, with_items_is}
 use Rattle.std.proofs.lemmas.List.Sums.{length-filter}
 use Rattle.std.proofs.lemmas.List.Elements.{All-head, All-tail}
-use Rattle.std.proofs.lemmas.List.Edits.{map_over_more}
 use Rattle.cs_types.specs.declared.task.Task.{Task}
 use Rattle.cs_types.specs.Order.{first_of}
 use Rattle.cs_types.proofs.First.{first_of_reduce}
@@ -146,13 +145,6 @@ places {X} (x ∷ xs) d =
 -- a vector's items after a change that keeps their number
 pub items-as_many : {X : Type 0} (v : Vec X) (after : List X) → length after ≡ length v.items → (with_items v after).items ≡ after
 items-as_many v after e = with_items_is v after (e ∙ sym v.ok.0)
-
--- one more place of a list whose elements are changed in turn
-pub mapped_more : {X : Type 0} (g : X → X) (xs ys : List X) (i : ℕ) (y d : X) → i < length xs →
-    ys ≡ map g (take i xs) ++ drop i xs → y ≡ g (get_or ys i d) → set ys i y ≡ map g (take (i + 1) xs) ++ drop (i + 1) xs
-mapped_more g xs ys i y d lt so_far is =
-    let within : i < length ys = omega (arith, ap length so_far, length-append (map g (take i xs)) (drop i xs), length-map (take i xs) g, length-take i xs, length-drop i xs) in
-    ap (set ys i) is ∙ map_over_more g xs ys i (get_or ys i d) lt so_far (get_or_default ys i d (get_or ys i d) within)
 
 -- the place where such a change stands has what it had
 pub mapped_at : {X : Type 0} (g : X → X) (xs : List X) (i : ℕ) (d : X) → i < length xs → get_or (map g (take i xs) ++ drop i xs) i d ≡ get_or xs i d

@@ -1,10 +1,10 @@
 -- Drains: what the end of a run makes: of whom its entries are, that they are legal, and that there is one such end.
 use Rattle.std.proofs.Common.{◌≡◌, ℕ, zero, suc, ◌+◌, ◌<◌, ◌≤◌, Bool, true, false, cond, List, [], ◌∷◌, ◌++◌, map, length, refl, sym, ap, ◌∙◌, subst, inl, inr, Some, None, arith}
-use Rattle.std.specs.Prelude.{◌&&◌, is_some, ◌⊎◌, filter, All, Contains}
+use Rattle.std.specs.Prelude.{◌⊎◌, filter, All, Contains}
 use Rattle.std.specs.List.{AllByRecursion, range_with_len}
-use Rattle.std.proofs.lemmas.Bool.{cond_both, and_right}
+use Rattle.std.proofs.lemmas.Bool.{cond_both}
 use Rattle.std.proofs.lemmas.List.{map-append, append-nil}
-use Rattle.std.proofs.lemmas.List.Elements.{All-contains, All-append, All-from_recursion, filter-append}
+use Rattle.std.proofs.lemmas.List.Elements.{All-append, All-from_recursion, filter-append}
 use Rattle.cs_types.specs.declared.event.Actor.{Actor}
 use Rattle.cs_types.specs.declared.event.Actor.TheVariants.{End}
 use Rattle.cs_types.specs.declared.event.Event.{Event}
@@ -12,15 +12,13 @@ use Rattle.cs_types.specs.declared.event.Event.TheVariants.{Resched}
 use Rattle.cs_types.specs.declared.event.Step.{Step}
 use Rattle.cs_types.specs.declared.reply.Entry.{Entry}
 use Rattle.cs_types.specs.Scenario.{is_actor, IsEvent}
-use Rattle.cs_types.specs.Room.{Opening, RoomState, Waiting, sibling_of, is_online, online}
-use Rattle.cs_types.specs.Touches.{is_adopted, is_fresh}
-use Rattle.cs_types.specs.Selection.{select, is_plain, pick_plain, pick_anew, adopt_or_pick_anew, schedule}
-use Rattle.cs_types.specs.Accounting.{charge}
+use Rattle.cs_types.specs.Room.{Opening, RoomState, sibling_of, online}
+use Rattle.cs_types.specs.Touches.{is_fresh}
 use Rattle.cs_types.specs.History.{History, Moment, beginning, step_at, next, after, moment_of, IsLegal, events_by, entry_of, made_from, history_of, fold_of, AreEvents}
 use Rattle.cs_types.specs.Drain.{pending, is_ready, lowest, next_to_schedule, entry_by_end, IsEndFrom, IsDrained}
 use Rattle.cs_types.proofs.Histories.{IsLegal-history_of}
 use Rattle.cs_types.proofs.Siblings.{kept, kept-schedule, kept-unless_offline, length-alike, is_online-alike, length-fold_of}
-use Rattle.cs_types.proofs.Filtered.{each-filter, Contains-filter, Contains-filter_parts}
+use Rattle.cs_types.proofs.Filtered.{each-filter, Contains-filter_parts}
 use Rattle.cs_types.proofs.Selections.{online_parts}
 
 -- ---- who schedules next
@@ -71,44 +69,6 @@ climbs-filter p [] climbs = tt
 climbs-filter p (x ∷ xs) climbs =
     cond_both (p x) (x ∷ filter p xs) (filter p xs) Climbs (λ _. (each-filter (λ y. x ≤ y) p xs climbs.0, climbs-filter p xs climbs.1))
     (λ _. climbs-filter p xs climbs.1)
-
-first_is_least : (xs : List ℕ) (x y : ℕ) → Climbs xs → lowest xs ≡ Some x → Contains xs y → x ≤ y
-first_is_least [] x y climbs found held = absurd cc
-first_is_least (z ∷ zs) x y climbs found held =
-    let same : z ≡ x = cc in
-    let each : AllByRecursion (λ n. z ≤ n) (z ∷ zs) = (omega arith, climbs.0) in
-    omega (arith, same, All-contains (λ n. z ≤ n) (z ∷ zs) y (All-from_recursion (λ n. z ≤ n) (z ∷ zs) each) held)
-
-lowest_is_least : (p : ℕ → Bool) (xs : List ℕ) (x y : ℕ) → Climbs xs → lowest (filter p xs ++ xs) ≡ Some x → Contains xs y → p y ≡ p x → x ≤ y
-lowest_is_least p xs x y climbs found held alike = go (filter p xs) refl found where
-  go : (kept : List ℕ) → filter p xs ≡ kept → lowest (kept ++ xs) ≡ Some x → x ≤ y
-  go [] none found = first_is_least xs x y climbs found held
-  go (z ∷ zs) some found =
-      let same : z ≡ x = cc in
-      let its : Contains (filter p xs) x = subst (λ ns. Contains ns x) (sym some) (0, omega arith, same) in
-      let passes : p x ≡ true = (Contains-filter_parts p xs x its).1 in
-      first_is_least (filter p xs) x y (climbs-filter p xs climbs) (ap lowest some ∙ found) (Contains-filter p xs y held (alike ∙ passes))
-
--- Of the pending siblings that are ready as it is, or as it is not, it is the lowest.
-pub next_is_lowest : (moment : Moment) (cpu other : ℕ) → next_to_schedule moment ≡ Some cpu → Contains (pending moment.room) other →
-    is_ready moment other ≡ is_ready moment cpu → cpu ≤ other
-next_is_lowest moment cpu other found held alike =
-    let cpus = range_with_len 0 (length moment.room.siblings) in
-    lowest_is_least (is_ready moment) (pending moment.room) cpu other
-    (climbs-filter (λ sibling. (sibling_of moment.room sibling).pending) (online moment.room)
-    (climbs-filter (is_online moment.room) cpus (climbs-range 0 (length moment.room.siblings)))) found held alike
-
--- A sibling's schedule is an adoption exactly where it is ready.
-pub ready_adopts : (moment : Moment) (cpu : ℕ) → is_adopted (schedule moment.room (is_fresh moment.ledger) cpu).pick.kind ≡ is_ready moment cpu
-ready_adopts moment cpu = go (is_fresh moment.ledger) (sibling_of moment.room cpu).waiting where
-  none_adopted : is_adopted (pick_anew (charge moment.room) cpu).pick.kind ≡ false
-  none_adopted =
-      cond_both (is_plain moment.room cpu) (pick_plain (charge moment.room) cpu) (select (charge moment.room) cpu) (λ made. is_adopted made.pick.kind ≡ false) (λ _. refl) (λ _. refl)
-
-  go : (fresh : Bool) (waiting : Waiting) → is_adopted (adopt_or_pick_anew moment.room fresh cpu waiting).pick.kind ≡ (fresh && is_some waiting)
-  go fresh None = none_adopted ∙ sym (and_right fresh false refl)
-  go true (Some run) = refl
-  go false (Some run) = none_adopted
 
 -- Where nobody schedules next, nobody is pending, and the other way round.
 pub next_is_none : (moment : Moment) → next_to_schedule moment ≡ None → pending moment.room ≡ []

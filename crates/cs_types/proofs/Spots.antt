@@ -56,9 +56,6 @@ each_is_found low high (task ∷ tasks) rises = (
 
 -- ---- a search by pid in a changed list
 
-either_way : (a b : ℕ) → (a == b) ≡ (b == a)
-either_way a b = grind (arith, nat_tests)
-
 spot-cond : (b : Bool) (task : Task) (found : Option Task) → option_map spot_of (cond b (Some task) found) ≡ cond b (Some (spot_of task)) (option_map spot_of found)
 spot-cond true task found = refl
 spot-cond false task found = refl

@@ -201,9 +201,6 @@ pub few-fold_of : (opening : Opening) (history : History) → length opening.sce
 few-fold_of opening history few =
     (few-after (beginning opening) history).few (omega (arith, few, length-asleep_tasks opening.scenario.tasks))
 
-pub task_limit-fold_of : (opening : Opening) (history : History) → (fold_of opening history).task_limit ≡ opening.scenario.task_limit
-task_limit-fold_of opening history = (few-after (beginning opening) history).limit
-
 -- ---- the first pid
 
 most_of : (most : ℕ) (specs : List TaskSpec) → most ≤ fold (λ pid spec. max pid spec.pid) most specs

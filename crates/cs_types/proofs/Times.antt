@@ -731,16 +731,6 @@ timely-step entries room fresh (Unload index) timely =
 
 -- ---- what a machine asks between two changes of one step
 
-pub IsTimely-slept : (entries : ℕ) (room : RoomState) (cpu : ℕ) (task : Task) → running_on room cpu ≡ Some task → IsTimely entries room → IsTimely entries (run_idle (dequeue room task) cpu)
-IsTimely-slept entries room cpu task runs timely =
-    let parts = parts_timely entries room timely in
-    timely_parts entries (run_idle (dequeue room task) cpu)
-    (timely-slept _ room cpu task (subst (λ one. IfSome one (IsTimelyTask room)) runs (running_is_timely _ room cpu parts)) parts)
-
-pub IsTimely-gone : (entries : ℕ) (room : RoomState) (cpu : ℕ) (task : Task) → IsTimely entries room → IsTimely entries (run_idle (without room task) cpu)
-IsTimely-gone entries room cpu task timely =
-    timely_parts entries (run_idle (without room task) cpu) (timely-gone _ room cpu task (parts_timely entries room timely))
-
 -- ---- after a history
 
 timely_after : (done : ℕ) (moment : Moment) (entries : List Entry) → IsTimely done moment.room → IsTimely (done + length entries) (after moment entries).room

@@ -34,9 +34,6 @@ is_get ask = ask.cmd == 0
 abbrev pub is_create : Ask → Bool
 is_create ask = ask.cmd == 1
 
-abbrev pub is_share_to : Ask → Bool
-is_share_to ask = ask.cmd == 2
-
 abbrev pub is_share_from : Ask → Bool
 is_share_from ask = ask.cmd == 3
 

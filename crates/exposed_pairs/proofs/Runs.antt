@@ -1,10 +1,7 @@
 -- Runs: how the pairs of a history go on by one entry.
 use Rattle.std.proofs.Common.{◌≡◌, ℕ, ◌+◌, ◌<◌, Bool, true, false, cond, List, [], ◌∷◌, ◌++◌, subst, refl, sym, ◌∙◌, arith, Some, None}
 use Rattle.std.specs.Prelude.{◌&&◌}
-use Rattle.cs_types.specs.declared.event.Event.{Event}
-use Rattle.cs_types.specs.declared.event.Event.TheVariants.{Advance}
 use Rattle.cs_types.specs.declared.reply.Entry.{Entry}
-use Rattle.cs_types.specs.Scenario.{IsEvent}
 use Rattle.cs_types.specs.Room.{Opening}
 use Rattle.cs_types.specs.History.{History, fold_of}
 use Rattle.run_times.specs.Times.{Span, advance_of, spans_of, time_in}
@@ -12,11 +9,6 @@ use Rattle.run_times.proofs.Spans.{spans_of-advance, spans_of-still, time_in-pus
 use Rattle.exposed_pairs.specs.declared.rows.PairTime.{PairTime}
 use Rattle.exposed_pairs.specs.Pairs.{runs_cookie, exposes, AreRows, time_of, ArePairsIn, ArePairsOf}
 use Rattle.exposed_pairs.specs.Added.{has}
-
--- an advance takes some time
-pub advance_of-some : (siblings : ℕ) (event : Event) (time : ℕ) → IsEvent siblings event → advance_of event ≡ Some time → 0 < time
-advance_of-some siblings (Advance delta) time limits is = let same : delta ≡ time = cc in omega (arith, limits.0, same)
-advance_of-some siblings event time limits is = absurd cc
 
 more_where : (holds : Bool) (sum time : ℕ) → sum + cond holds time 0 ≡ cond holds (sum + time) sum
 more_where true sum time = refl

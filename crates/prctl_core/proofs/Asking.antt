@@ -1,5 +1,5 @@
 -- Asking: how the walk over the members goes on by one, where asking changed neither who may be accessed nor who is asked.
-use Rattle.std.proofs.Common.{◌≡◌, ℕ, Bool, true, false, cond, List, [], ◌∷◌, ◌++◌, sym, ap, ◌∙◌}
+use Rattle.std.proofs.Common.{◌≡◌, ℕ, Bool, true, cond, List, [], ◌∷◌, ◌++◌, sym, ap, ◌∙◌}
 use Rattle.std.specs.Prelude.{◌&&◌, not}
 use Rattle.std.specs.List.{list_all}
 use Rattle.cs_types.specs.declared.task.Task.{Task}
@@ -23,14 +23,6 @@ module _ (first now : GuardList) (caller : TaskSpec) (task : Task) (rest : List 
       ap (λ b. asked_each now (asked_about first caller task.spec ++ cond (not b) [] others)) (sym (may caller task.spec) ∙ passes)
       ∙ asked_each-append now (asked_about first caller task.spec) others
       ∙ ap (λ (asked : List ℕ). asked_each (asked_each now asked) others) (sym (about caller task.spec))
-
-  -- it may not, so nobody else is asked
-  pub asked-stops : may_access now caller task.spec ≡ false →
-      asked_each now (asked_about_all first caller (task ∷ rest)) ≡ asked_each now (asked_about now caller task.spec)
-  asked-stops stops =
-      ap (λ b. asked_each now (asked_about first caller task.spec ++ cond (not b) [] others)) (sym (may caller task.spec) ∙ stops)
-      ∙ asked_each-append now (asked_about first caller task.spec) []
-      ∙ ap (asked_each now) (sym (about caller task.spec))
 
   -- whether all may goes by the others, or is settled
   pub all-goes : (passes : Bool) → may_access now caller task.spec ≡ passes →

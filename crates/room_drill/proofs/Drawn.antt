@@ -28,9 +28,6 @@ draw_below m word some = mod-lt (next_word word / 2 ^ 33) some
 pub record SoFar {X : Type 0} (draws : ℕ → Draws X) (first count word : ℕ) (done : List X) (number left now : ℕ) : Type 0 where
   pub is : in_turn first count draws word ≡ (done ++ (in_turn number left draws now).0, (in_turn number left draws now).1)
 
-pub none_drawn : {X : Type 0} (draws : ℕ → Draws X) (first count word : ℕ) → SoFar draws first count word [] first count word
-none_drawn draws first count word = record { is = refl }
-
 more_of : {X : Type 0} (draws : ℕ → Draws X) (done : List X) (number left now : ℕ) (value : X) (next : ℕ) → (value, next) ≡ draws number now →
     (let all : List X × ℕ = (done ++ (in_turn number (suc left) draws now).0, (in_turn number (suc left) draws now).1) in all)
     ≡ ((done ++ value ∷ []) ++ (in_turn (number + 1) left draws next).0, (in_turn (number + 1) left draws next).1)

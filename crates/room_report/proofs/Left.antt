@@ -76,11 +76,6 @@ cpu_row moment cpu = option_map (cpu_words cpu) (cpu_view moment cpu)
 abbrev pub cpu_lines_from : Moment → ℕ → List (List Word)
 cpu_lines_from moment cpu = filter_map (cpu_row moment) (range_with_len cpu (length moment.room.siblings - cpu))
 
-pub cpu_start : (moment : Moment) → cpu_lines moment ≡ cpu_lines_from moment 0
-cpu_start moment =
-    let e : length moment.room.siblings - 0 ≡ length moment.room.siblings = omega arith in
-    ap (λ n. filter_map (cpu_row moment) (range_with_len 0 n)) (sym e)
-
 pub cpu_next : (moment : Moment) (cpu : ℕ) (view : CpuView) → cpu < length moment.room.siblings → cpu_view moment cpu ≡ Some view →
     lines_text (cpu_lines_from moment cpu) ≡ line (cpu_words cpu view) ++ lines_text (cpu_lines_from moment (cpu + 1))
 cpu_next moment cpu view few shown =

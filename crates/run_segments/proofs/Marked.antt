@@ -11,9 +11,6 @@ use Rattle.cs_types.proofs.Rising.{AreRising, above_none}
 use Rattle.run_times.specs.Doing.{has_queued}
 use Rattle.run_times.proofs.Shown.{shown_after, queued_above, queued_start, queued_with, is_on}
 
-some_queued : RoomState → ℕ → ℕ → Bool
-some_queued room cpu pid = ltb 0 (length (queued_above room cpu pid))
-
 -- no task is gone through yet
 pub unmarked : (room : RoomState) (cpu : ℕ) (mark : Bool) → AreRising room → mark ≡ false → (mark || ltb 0 (length (queued_above room cpu 0))) ≡ has_queued room cpu
 unmarked room cpu mark rises off = ap (λ (b : Bool). b || ltb 0 (length (queued_above room cpu 0))) off ∙ ap (λ (ts : List Task). ltb 0 (length ts)) (queued_start room cpu rises)

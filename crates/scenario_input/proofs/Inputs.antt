@@ -1,13 +1,8 @@
 -- How many bytes are read of an input, and which.
-use Rattle.std.proofs.Common.{◌≡◌, ℕ, ◌≤◌, List, ◌++◌, length, refl, sym, ap, ◌∙◌, arith}
+use Rattle.std.proofs.Common.{◌≡◌, ℕ, ◌≤◌, List, ◌++◌, length, sym, ap, ◌∙◌, arith}
 use Rattle.std.specs.Prelude.{Option, Some, None}
 use Rattle.std.proofs.lemmas.List.{append-nil}
 use Rattle.scenario_input.specs.Input.{IsReadAs, count_read}
-
--- none where nothing was read
-pub count_none : (told : Option (List ℕ)) → count_read told told ≡ 0
-count_none None = refl
-count_none (Some left) = omega arith
 
 -- no more than there were
 pub count_read-le : (text : List ℕ) (now : Option (List ℕ)) → count_read (Some text) now ≤ length text

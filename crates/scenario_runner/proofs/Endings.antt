@@ -1,5 +1,5 @@
 -- Endings: what holds of a run, status by status.
-use Rattle.std.proofs.Common.{◌≡◌, ◌≢◌, Bool, true, false, ℕ, ◌+◌, ◌-◌, ◌^◌, ◌<◌, ◌≤◌, List, ◌++◌, length, refl, sym, inl, inr, ap, ◌∙◌, subst, arith}
+use Rattle.std.proofs.Common.{◌≡◌, ◌≢◌, ℕ, ◌+◌, ◌-◌, ◌^◌, ◌<◌, ◌≤◌, List, ◌++◌, length, refl, sym, inl, inr, ap, ◌∙◌, subst, arith}
 use Rattle.std.specs.Prelude.{◌⊎◌, ◌↔◌, Option, Some, None, IfSome, Result, Ok, Err, All}
 use Rattle.cs_types.specs.declared.scenario.Scenario.{Scenario}
 use Rattle.cs_outside.specs.Device.{Rose}
@@ -52,14 +52,7 @@ AreMade run = All (λ entry. IsMade entry.actor entry.event) run
 pub not_both : {T E : Type 0} (read : Result T E) (value : T) (error : E) → read ≡ Ok value → read ≡ Err error → ⊥
 not_both read value error is other = cc
 
-pub not_true : (b : Bool) → b ≡ false → b ≡ true → ⊥
-not_true b is other = cc
-
 -- ---- clauses on a source that tells its bytes
-
-where_told : (told : Option (List ℕ)) {A : Type 0} → A → IfSome told (λ _. A)
-where_told None is = tt
-where_told (Some left) is = is
 
 pub same_where_told : (told : Option (List ℕ)) {A B : Type 0} (C : Type 0) → (A → B) → (B → A) → IfSome told (λ _. A ↔ C) → IfSome told (λ _. B ↔ C)
 same_where_told None C to back is = tt

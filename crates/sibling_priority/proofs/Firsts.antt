@@ -1,8 +1,7 @@
 -- The offers of first tasks stand in the order of those tasks, and what a caller of `lead` has to know of them.
-use Rattle.std.proofs.Common.{◌≡◌, ℕ, ◌+◌, ◌^◌, ◌<◌, true, false, ltb, List, [], ◌∷◌, ◌++◌, length, map, get_or, refl, sym, ap, ◌∙◌, subst, arith, All, Option, Some, None}
+use Rattle.std.proofs.Common.{◌≡◌, ℕ, ◌+◌, ◌<◌, true, false, ltb, List, [], ◌∷◌, length, map, get_or, refl, sym, ap, ◌∙◌, subst, arith, Option, Some, None}
 use Rattle.std.proofs.Math.ListN.{get_or-map}
-use Rattle.std.proofs.lemmas.List.{get_or_default, length-map, map_push}
-use Rattle.std.proofs.lemmas.List.Elements.{All-push}
+use Rattle.std.proofs.lemmas.List.{length-map}
 use Rattle.std.proofs.lemmas.Bool.Decides.{nat_tests}
 use Rattle.std.specs.List.{IsFirstBest}
 use Rattle.cs_types.specs.declared.task.Task.{Task}
@@ -12,7 +11,7 @@ use Rattle.cs_types.specs.Scenario.{IsPolicy}
 use Rattle.cs_types.specs.Order.{deadline_class, real_time_class, fair_class, idle_class, class_of, priority_of, outranks, foremost}
 use Rattle.cs_types.specs.Queue.{rank_by}
 use Rattle.sibling_priority.specs.declared.offer.Offer.{Offer}
-use Rattle.sibling_priority.specs.Offers.{class_of_first, rank_of_first, snapshot_of_first, offer_of, is_higher_offer, IsInRange, IsFirst, IsTimeInRange, AreOffersOf}
+use Rattle.sibling_priority.specs.Offers.{class_of_first, rank_of_first, snapshot_of_first, offer_of, is_higher_offer, IsFirst, AreOffersOf}
 use Rattle.sibling_priority.proofs.Ranks.{by_class, higher_by}
 use Rattle.sibling_priority.proofs.Leads.{foremost-first_best}
 
@@ -108,37 +107,6 @@ module _ (snapshot : ℕ → ℕ) (firsts : List (Option Task)) (offers : List O
       foremost (outranks snapshot) firsts ≡ Some (get_or firsts n None)
   foremost-offers n best = foremost-first_best (outranks snapshot) firsts n None (best_first n best)
 
-  -- Such offers are in range where the virtual times of the fair firsts and the snapshots are.
-  pub IsInRange-offers : All IsTimeInRange firsts → ((cpu : ℕ) → snapshot cpu < 2 ^ 127) → All IsInRange offers
-  IsInRange-offers times low k d l fair =
-      let blank = offer_of snapshot 0 None in
-      let same = get_or_default offers k d blank l in
-      let within : k < length firsts = subst (λ (m : ℕ). k < m) same_length l in
-      let is_fair = class_at k None ∙ sym (ap (λ (offer : Offer). offer.class) same) ∙ fair in (
-        subst (λ (rank : ℕ). rank < 2 ^ 127) (rank_at k None ∙ sym (ap (λ (offer : Offer). offer.rank) same))
-            (low_rank (get_or firsts k None) (are.priorities k None within) (times k None within) is_fair),
-        subst (λ (n : ℕ). n < 2 ^ 127) (snapshot_at k None ∙ sym (ap (λ (offer : Offer). offer.snapshot) same))
-            (low_snapshot (get_or firsts k None) is_fair),
-      ) where
-        low_rank : (first : Option Task) → IsFirst first → IsTimeInRange first → class_of_first first ≡ fair_class → rank_of_first first < 2 ^ 127
-        low_rank None h time e = absurd (omega arith)
-        low_rank (Some task) h time e = subst (λ (rank : ℕ). rank < 2 ^ 127) (sym ((is_rank task.spec.policy task h).by_vtime e)) (time e)
-
-        low_snapshot : (first : Option Task) → class_of_first first ≡ fair_class → snapshot_of_first snapshot first < 2 ^ 127
-        low_snapshot None e = absurd (omega arith)
-        low_snapshot (Some task) e = low task.home
-
-  -- One more first task and its offer, each at the end.
-  pub AreOffersOf-push : (first : Option Task) (offer : Offer) → offer.class ≡ class_of_first first → offer.rank ≡ rank_of_first first →
-      offer.snapshot ≡ snapshot_of_first snapshot first → IsFirst first → AreOffersOf snapshot (firsts ++ first ∷ []) (offers ++ offer ∷ [])
-  AreOffersOf-push first offer class rank of_home is_first = record {
-    classes = map_push (λ (o : Offer). o.class) offers offer ∙ rw (are.classes, class) (sym (map_push class_of_first firsts first));
-    ranks = map_push (λ (o : Offer). o.rank) offers offer ∙ rw (are.ranks, rank) (sym (map_push rank_of_first firsts first));
-    snapshots = map_push (λ (o : Offer). o.snapshot) offers offer
-        ∙ rw (are.snapshots, of_home) (sym (map_push (snapshot_of_first snapshot) firsts first));
-    priorities = All-push IsFirst firsts first are.priorities is_first;
-  }
-
 -- The offers of two first tasks stand in the order of those tasks.
 pub order_of_two : (snapshot : ℕ → ℕ) (first second : Option Task) (a b : Offer) → AreOffersOf snapshot (first ∷ second ∷ []) (a ∷ b ∷ []) →
     is_higher_offer a b ≡ outranks snapshot first second
@@ -149,15 +117,3 @@ map_map_alike : {X Y Z : Type 0} (f : Y → ℕ) (g : Z → ℕ) (y : X → Y) (
     map f (map y xs) ≡ map g (map z xs)
 map_map_alike f g y z alike [] = refl
 map_map_alike f g y z alike (x ∷ xs) = rw (alike x, map_map_alike f g y z alike xs) refl
-
--- first tasks and offers that come of the same things, in order
-pub AreOffersOf-map : {X : Type 0} (snapshot : ℕ → ℕ) (first_at : X → Option Task) (offer_at : X → Offer) (xs : List X) →
-    ((x : X) → (offer_at x).class ≡ class_of_first (first_at x)) → ((x : X) → (offer_at x).rank ≡ rank_of_first (first_at x)) →
-    ((x : X) → (offer_at x).snapshot ≡ snapshot_of_first snapshot (first_at x)) → All IsFirst (map first_at xs) →
-    AreOffersOf snapshot (map first_at xs) (map offer_at xs)
-AreOffersOf-map snapshot first_at offer_at xs class rank of_home are_firsts = record {
-  classes = map_map_alike (λ (o : Offer). o.class) class_of_first offer_at first_at class xs;
-  ranks = map_map_alike (λ (o : Offer). o.rank) rank_of_first offer_at first_at rank xs;
-  snapshots = map_map_alike (λ (o : Offer). o.snapshot) (snapshot_of_first snapshot) offer_at first_at of_home xs;
-  priorities = are_firsts;
-}

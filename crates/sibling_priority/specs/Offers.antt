@@ -62,10 +62,6 @@ offer_of snapshot cpu first =
 abbrev pub IsFirst : Option Task → Type 0
 IsFirst first = IfSome first (λ task. IsPolicy task.spec.policy)
 
--- a first task whose virtual time is in range where it is fair, or idle
-abbrev pub IsTimeInRange : Option Task → Type 0
-IsTimeInRange first = IfSome first (λ task. class_of task.spec.policy ≡ fair_class → task.vtime < 2 ^ 127)
-
 -- The offers are those of these first tasks, in order: each has the class and the rank of its first and the snapshot of
 -- that one's home, whatever its sibling and its pid.
 pub record AreOffersOf (snapshot : ℕ → ℕ) (firsts : List (Option Task)) (offers : List Offer) : Type 0 where

@@ -1,5 +1,5 @@
 -- Running: only the home of a task can run it.
-use Rattle.std.proofs.Common.{◌≡◌, ℕ, ◌<◌, Bool, true, false, cond, ltb, zero, suc, length, get_or, refl, sym, ap, ◌∙◌, subst, inl, inr, arith, Option, Some, None}
+use Rattle.std.proofs.Common.{◌≡◌, ℕ, ◌<◌, Bool, true, false, ltb, zero, suc, length, get_or, refl, sym, ap, ◌∙◌, subst, inl, inr, arith, Option, Some, None}
 use Rattle.std.specs.Prelude.{◌==◌, unwrap_or, Contains, IfSome}
 use Rattle.std.specs.Option.{option_map, option_map_or}
 use Rattle.std.proofs.lemmas.Bool.{cases_Bool, cond-true, both_ways, false_from_ne_true, ne_eqb, eqb-true, ltb-true, ltb-false}
@@ -19,8 +19,6 @@ use Rattle.cs_types.proofs.Foremost.{each_weaker}
 use Rattle.cs_types.proofs.Homes.{IsQueuedOn, each_queued}
 use Rattle.cs_types.proofs.Rising.{AreRising}
 use Rattle.run_times.proofs.Shown.{shown_at, shown_cpu, shown_zero}
-use Rattle.task_times.specs.declared.doing.TaskDoing.TheVariants.{Runs, Waits, Sleeps}
-use Rattle.task_times.specs.Living.{doing_of, doing_at}
 
 run_is : (run : Option ℕ) (pid : ℕ) → is_run run (Some pid) ≡ true → run ≡ Some pid
 run_is None pid is = absurd cc
@@ -105,15 +103,3 @@ running_shown moment view shown rises lives each is = go (task_of moment.room vi
       let pid : view.pid ≡ task.spec.pid = ap (λ (v : TaskView). v.pid) same in
       ap Some (ap (λ (n : ℕ). shows_run n shown) pid
       ∙ task_shown moment task shown rises (ap (task_of moment.room) (sym pid) ∙ e) each (is ∙ ap (λ (v : TaskView). cpu_view moment v.cpu) same))
-
--- What it does is told by that and by whether it is queued.
-pub doing_shown : (room : RoomState) (view : TaskView) (runs : Bool) → Some view ≡ shown_at room view.pid → Some runs ≡ option_map (is_running room) (task_of room view.pid) →
-    Some (cond runs Runs (cond view.queued Waits Sleeps)) ≡ doing_at room view.pid
-doing_shown room view runs lives is = go (task_of room view.pid) lives is where
-  go : (found : Option Task) → Some view ≡ option_map (task_view room) found → Some runs ≡ option_map (is_running room) found →
-      Some (cond runs Runs (cond view.queued Waits Sleeps)) ≡ option_map (doing_of room) found
-  go None its is = absurd cc
-  go (Some task) its is =
-      let same : view ≡ task_view room task = cc in
-      let test : runs ≡ is_running room task = cc in
-      λ i. Some (cond (test i) Runs (cond (ap (λ (v : TaskView). v.queued) same i) Waits Sleeps))

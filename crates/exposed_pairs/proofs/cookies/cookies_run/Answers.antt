@@ -11,10 +11,6 @@ use Rattle.exposed_pairs.proofs.Ran.{ran_by, ran_none, ran_again, ran_new}
 use Rattle.exposed_pairs.proofs.cookies.cookies_run.Goals as goal
 use Rattle.exposed_pairs.proofs.cookies.cookies_run.Goals.{in-Some+then-not-contains, in-Some+else-not-contains, in_default}
 
--- whether the cookie of a sibling is there already
-there_as : (cookies : List ℕ) (own : ℕ) (told : _) → told ≡ has own cookies → told ≡ true → has own cookies ≡ true
-there_as cookies own told is yes' = sym is ∙ yes'
-
 -- a cookie that is not there differs from each that is
 apart : (cookies : List ℕ) (own : ℕ) → has own cookies ≡ false → (k d : ℕ) → k < length cookies → get_or cookies k d ≢ own
 apart cookies own new k d few same =
