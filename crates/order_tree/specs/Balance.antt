@@ -1,5 +1,5 @@
 -- Balance: what a node stands for, and what always holds of one. No public clause cites this module.
-use Rattle.std.specs.Prelude.{◌≡◌, ℕ, zero, suc, ◌+◌, ◌≤◌, max, Bool, List, [], ◌∷◌, ◌++◌, length, IsTrue, Option, Some, None, if◌then◌else◌}
+use Rattle.std.specs.Prelude.{◌≡◌, ◌≢◌, ℕ, zero, suc, ◌+◌, ◌≤◌, max, Bool, List, [], ◌∷◌, ◌++◌, length, IsTrue, Option, Some, None, if◌then◌else◌}
 use Rattle.std.specs.FinMap.{is_sorted}
 use Rattle.std.specs.declared.cmp.Ordering.{Ordering}
 use Rattle.std.specs.declared.cmp.Ordering.TheVariants.{Less, Equal, Greater}
@@ -57,13 +57,6 @@ split Greater = (Equal, Less)
 -- a tree has as many entries as its height asks for
 abbrev pub HasMany : Branch → Type 0
 HasMany branch = fewest branch.height ≤ length branch.entries
-
--- a node that has no sides
-pub record IsBare (node : Node) : Type 0 where
-  pub left : node.left.entries ≡ []
-  pub left_height : node.left.height ≡ 0
-  pub right : node.right.entries ≡ []
-  pub right_height : node.right.height ≡ 0
 
 -- The keys rise, and the sides have many entries.
 pub record HoldsSides (left : Branch) (entry : Entry) (right : Branch) : Type 0 where
@@ -160,6 +153,11 @@ left_levels (Some node) = max node.value.left.height (node.value.right.height + 
 abbrev pub right_levels : Option (Box Node Global) → ℕ
 right_levels None = 0
 right_levels (Some node) = max (node.value.left.height + 1) node.value.right.height
+
+-- a root with a right side
+abbrev pub HasRight : Option (Box Node Global) → Type 0
+HasRight None = ⊥
+HasRight (Some node) = node.value.right.entries ≢ []
 
 -- a tree without the entry of its root, and the node that is spare then
 pub record IsTaken (node taken : Node) (after : Branch) (lower : Bool) : Type 0 where

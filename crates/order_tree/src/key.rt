@@ -4,6 +4,8 @@ ghost use Rattle.std.specs.Prelude.{◌≡◌};
 ghost use Rattle.std.specs.Ordering.{is_lt};
 ghost use Rattle.order_tree.specs.Order.{key_cmp};
 
+use std::cmp::Ordering;
+
 /// A key. Keys compare by group, then by class, then by rank, then by stamp.
 #[derive(Clone, Copy, PartialEq, Eq, PartialOrd, Ord)]
 pub struct Key {
@@ -41,5 +43,19 @@ impl Key {
             return self.rank < other.rank;
         }
         self.stamp < other.stamp
+    }
+
+    /// How it compares with the other, as `cmp` says, in the fewest tests.
+    #[inline(always)]
+    pub fn compare(&self, other: &Key) -> Ordering
+        ensures { result ≡ key_cmp self.now other.now }
+    {
+        if self.is_below(other) {
+            return Ordering::Less;
+        }
+        if self == other {
+            return Ordering::Equal;
+        }
+        Ordering::Greater
     }
 }

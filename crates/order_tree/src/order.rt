@@ -148,7 +148,7 @@ impl OrderTree {
         ensures spare { self.new.spare ≡ self.old.spare }
     {
         self.tree.renew(renewal);
-        self.first = entry_of(self.tree.first());
+        look_anew(&mut self.first, &self.tree);
     }
 
     /// The least key, and the pid there. `None` exactly where there is no key.
@@ -246,8 +246,16 @@ fn renew(first: &mut Option<(Key, Pid)>, taken: Pid, tree: &Tree)
         return;
     };
     if *pid == taken {
-        *first = entry_of(tree.first());
+        look_anew(first, tree);
     }
+}
+
+/// Looks in the tree for the first entry.
+#[inline(never)]
+fn look_anew(first: &mut Option<(Key, Pid)>, tree: &Tree)
+    ensures { first.new ≡ slice_get tree.now.entries 0 }
+{
+    *first = entry_of(tree.first());
 }
 
 /// The entry of a node, if there is one.

@@ -143,17 +143,19 @@ impl Tree {
     pub fn first(&self) -> Option<&Node>
         ensures { entry_at result ≡ slice_get self.now.entries 0 }
     {
-        let Some(node) = &self.root else {
+        let Some(root) = &self.root else {
             return None;
         };
-        if node.left.is_empty() {
-            return Some(node);
+        let mut node = &**root;
+        while let Some(left) = &node.left.root {
+            node = left;
         }
-        node.left.first()
+        Some(node)
     }
 
     /// The node of the first entry whose key is above this one, or also at it where `at` is true. Where there is
     /// none, `other`.
+    #[inline(never)]
     pub fn seek<'a, L: Ledger>(
         &'a self,
         key: &Key,
@@ -165,15 +167,18 @@ impl Tree {
         ensures shallow { self.now.height ≤ 2 * digits (length self.now.entries) }
         ensures counted { steps.new ≤ steps.old + self.now.height }
     {
-        let Some(node) = &self.root else {
-            return other;
-        };
-        steps.tick();
-        if reaches(node.key.cmp(key), at) {
-            node.left.seek(key, at, Some(node), steps)
-        } else {
-            node.right.seek(key, at, other, steps)
+        let mut tree = self;
+        let mut found = other;
+        while let Some(node) = &tree.root {
+            steps.tick();
+            if reaches(node.key.cmp(key), at) {
+                found = Some(node);
+                tree = &node.left;
+            } else {
+                tree = &node.right;
+            }
         }
+        found
     }
 
     /// Puts the node in its place, where no entry has its key. The result tells whether the tree is a level
@@ -309,7 +314,7 @@ impl Tree {
             ..
         } = &mut **root;
         steps.tick();
-        match key.cmp(own) {
+        match key.compare(own) {
             Ordering::Less => {
                 if !left.remove(key, taken, steps) {
                     return false;

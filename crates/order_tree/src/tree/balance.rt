@@ -3,14 +3,14 @@
 //! module, since nobody else reads the fields of a node.
 
 ghost use Rattle.std.specs.Prelude.{◌≡◌, ◌≢◌, ◌+◌, [], ◌∷◌, true, None, Some, MatchOption, if◌then◌else◌};
-ghost use Rattle.order_tree.specs.Balance.{entry_in, branch_of, over, split, IsBare, IsLeaning, CanSpread, IsEven, IsBalanced, IsNode, TiltsLeft, TiltsRight, IsHighLeft, IsHighRight, left_levels, right_levels, IsUprooted};
+ghost use Rattle.order_tree.specs.Balance.{entry_in, branch_of, over, split, IsLeaning, CanSpread, IsEven, IsBalanced, IsNode, TiltsLeft, TiltsRight, IsHighLeft, IsHighRight, left_levels, right_levels, HasRight, IsUprooted};
 
 use super::{Node, Tree};
 use std::cmp::Ordering;
 use std::mem;
 
 /// Puts a node where no tree is. The result tells that the height changed.
-#[inline(never)]
+#[inline(always)]
 pub fn plant(root: &mut Option<Box<Node>>, mut node: Box<Node>) -> bool
     requires none { root.old ≡ None }
     ensures balanced { IsBalanced root.new }
@@ -18,32 +18,31 @@ pub fn plant(root: &mut Option<Box<Node>>, mut node: Box<Node>) -> bool
     ensures height { (branch_of root.new).height ≡ 1 }
     ensures changed { result ≡ true }
 {
-    let leaf = &mut *node;
-    strip(leaf);
-    leaf.lean = Ordering::Equal;
+    if !node.left.is_empty() || !node.right.is_empty() {
+        return plant_pruned(root, node);
+    }
+    node.lean = Ordering::Equal;
     set_root(root, node);
     true
 }
 
-/// Takes a node's sides from it, where it has any. A spare node has none.
-#[inline(always)]
-fn strip(node: &mut Node)
-    ensures bare { IsBare node.new }
-    ensures entry { entry_in node.new ≡ entry_in node.old }
-{
-    if !node.left.is_empty() || !node.right.is_empty() {
-        prune(node);
-    }
-}
-
-/// Takes a node's sides from it.
+/// Puts a node where no tree is, without the sides that it has. A spare node has none, so this is apart, and a walk
+/// that plants a node saves no registers for it.
+#[cold]
 #[inline(never)]
-fn prune(node: &mut Node)
-    ensures bare { IsBare node.new }
-    ensures entry { entry_in node.new ≡ entry_in node.old }
+fn plant_pruned(root: &mut Option<Box<Node>>, mut node: Box<Node>) -> bool
+    requires none { root.old ≡ None }
+    ensures balanced { IsBalanced root.new }
+    ensures entries { (branch_of root.new).entries ≡ entry_in node.value ∷ [] }
+    ensures height { (branch_of root.new).height ≡ 1 }
+    ensures changed { result ≡ true }
 {
-    node.left = Tree::empty();
-    node.right = Tree::empty();
+    let leaf = &mut *node;
+    leaf.left = Tree::empty();
+    leaf.right = Tree::empty();
+    leaf.lean = Ordering::Equal;
+    set_root(root, node);
+    true
 }
 
 /// Takes out the root of a tree, with its sides, and leaves an empty tree.
@@ -295,7 +294,7 @@ fn split(lean: Ordering) -> (Ordering, Ordering)
 
 /// Takes the root out of its tree, and puts the node that is spare then where none is. The result tells whether
 /// the tree is a level lower then.
-#[inline(never)]
+#[inline(always)]
 pub fn uproot(root: &mut Option<Box<Node>>, taken: &mut Option<Box<Node>>) -> bool
     requires some { root.old ≢ None }
     requires balanced { IsBalanced root.old }
@@ -316,6 +315,25 @@ pub fn uproot(root: &mut Option<Box<Node>>, taken: &mut Option<Box<Node>>) -> bo
         hand_out(root, left.root, taken);
         return true;
     }
+    raise_first(root, taken)
+}
+
+/// The same where the root has a right side: it gets the first entry of that, whose node is spare then.
+#[inline(never)]
+fn raise_first(root: &mut Option<Box<Node>>, taken: &mut Option<Box<Node>>) -> bool
+    requires right { HasRight root.old }
+    requires balanced { IsBalanced root.old }
+    requires none { taken.old ≡ None }
+    ensures balanced { IsBalanced root.new }
+    ensures uprooted { IsUprooted root.old taken.new (branch_of root.new) result }
+{
+    let Some(node) = root else { unreachable!() };
+    let Node {
+        key,
+        pid,
+        right,
+        ..
+    } = &mut **node;
     let lower = right.take_first(taken);
     let Some(first) = taken else { unreachable!() };
     *key = first.key;

@@ -21,7 +21,7 @@ invariant_of-self g c =
       rising = ap (is_sorted key_cmp) c.renew.ensures.entries
           ∙ ap (λ (es : List Entry). is_sorted key_cmp (map (rekeyed (g.R.Renewal.at c.args.renewal.now)) es)) (sym are) ∙ c.requires.rising;
       counted = ap length c.renew.ensures.entries ∙ length-map c.self.inside.tree.entries (rekeyed (g.R.Renewal.at c.args.renewal.now)) ∙ sound.counted;
-      first = c.entry_of-self-inside.ensures ∙ c.first.ensures;
+      first = c.look_anew.ensures;
       nodes = sound.nodes;
       places = sound.places;
       few = sound.few;
