@@ -94,12 +94,7 @@ impl CookieQueue {
         ensures counted { steps.new ≤ steps.old + most_comparisons (map.len self.old.tasks)
             + most_comparisons (map.len (map.remove self.old.tasks (spot_of task.now))) }
     {
-        self.tree.remove(&key_of(task), steps);
-        let later = Key {
-            rank,
-            ..key_of(task)
-        };
-        self.tree.insert(later, task.pid, steps);
+        self.tree.set_rank(&key_of(task), rank, task.pid, steps);
     }
 
     /// Every task leaves.

@@ -1,23 +1,35 @@
 -- A tree in which all keys are of one group and one class, as the queue of a scheduling class.
-use Rattle.std.proofs.Common.{◌≡◌, ℕ, true, false, cond, List, [], ◌∷◌, map, None, Some, inl, inr, refl, sym, ap, ◌∙◌, subst}
+use Rattle.std.proofs.Common.{◌≡◌, ℕ, ◌≤◌, min, MatchOption, Option, arith, true, false, cond, List, [], ◌∷◌, map, None, Some, inl, inr, refl, sym, ap, ◌∙◌, subst}
 use Rattle.std.specs.Prelude.{is_some, slice_get}
 use Rattle.std.specs.List.{AllByRecursion}
 use Rattle.std.specs.Option.{option_map}
-use Rattle.std.specs.Ordering.{ordering_then, eq_by_cmp}
-use Rattle.std.specs.Cmp.{nat_cmp_is}
-use Rattle.std.specs.declared.cmp.Ordering.TheVariants.{Equal}
+use Rattle.std.specs.Ordering.{ordering_then, nat_cmp, is_lt, is_eq, eq_by_cmp}
+use Rattle.std.specs.Cmp.{nat_cmp_is, tied_itself}
+use Rattle.std.specs.declared.cmp.Ordering.TheVariants.{Less, Equal, Greater}
 use Rattle.std.specs.FinMap as fin
 use Rattle.std.specs.FinMap.{entries, get, len, empty, empty_of_len, len-empty, get-empty, get-entries, get-insert, get-remove, is_sorted, find}
-use Rattle.std.proofs.lemmas.Bool.{cases_Bool, cond-true, cond-false}
+use Rattle.std.proofs.lemmas.Bool.{cases_Bool, cases_order, cond-true, cond-false}
 use Rattle.cs_types.specs.Queue as queue
 use Rattle.cs_types.proofs.Queues as queues
-use Rattle.order_tree.specs.Order.{Entry, Members, key_cmp, stamped, first_of}
+use Rattle.order_tree.specs.Order.{Entry, Members, Ordered, key_cmp, stamped, first_of}
+use Rattle.order_tree.specs.Recent.{with_recent, IsBeside, StandsBeside, lesser}
 use Rattle.order_tree.specs.Renamed.{renamed, map_renamed}
 use Rattle.order_tree.specs.Rank.{rank_at, key_at, least_rank, stamped as ranked_stamp, IsRankKey, IsOfClass}
 use Rattle.order_tree.proofs.Entries.{equal_by}
-use Rattle.order_tree.proofs.Keys.{key_total, key_cmp-IsAntisymmetric}
+use Rattle.order_tree.proofs.Keys.{key_total, key_cmp-IsAntisymmetric, is_lt-same}
+use Rattle.order_tree.proofs.Recents.{first_of-recent, contains_key-at}
 use Rattle.order_tree.specs.Anew.{rekeyed, reranked}
 use Rattle.order_tree.proofs.Renamed.{IsRenaming, all_of_found, is_sorted-renamed, entries-map_renamed, get-map_renamed, len-map_renamed, map_renamed-insert, map_renamed-remove}
+
+-- the lesser one of two ranks, where there is another
+abbrev pub least_with : ℕ → Option ℕ → ℕ
+least_with rank None = rank
+least_with rank (Some other) = min rank other
+
+-- the first of such entries
+first-of_class : (other : Entry) (es : List Entry) → AllByRecursion (λ (e : Entry). IsRankKey e.0) es → slice_get es 0 ≡ Some other → IsRankKey other.0
+first-of_class other [] all is = absurd cc
+first-of_class other (e ∷ es) all is = subst (λ (o : Option Entry). MatchOption o (Unit {0}) (λ e. IsRankKey e.0)) is all.0
 
 -- among such keys the ranks and the stamps decide
 pub ranks : IsRenaming key_cmp queue.key_cmp IsRankKey rank_at key_at
@@ -142,6 +154,65 @@ module _ (members : Members) (of_class : IsOfClass members) where
     ranked-remove is =
         map_renamed-remove ranks key_total queues.key_total queues.key_cmp-IsAntisymmetric members after each
         (all_of_found key_total IsRankKey (entries after) (λ key there. IsOfClass-remove is key (ap is_some (get-entries after key) ∙ there))) place is
+
+-- ---- the least rank of two entries
+
+-- of two entries with such keys the lesser one has the lesser rank
+lesser-rank : (one other : Entry) → IsRankKey one.0 → IsRankKey other.0 →
+    option_map (λ (e : Entry). e.0.rank) (lesser (Some one) (Some other)) ≡ Some (min one.0.rank other.0.rank)
+lesser-rank one other p q =
+    let rest = nat_cmp one.0.stamp other.0.stamp in
+    let test = is_lt (key_cmp one.0 other.0) in
+    let by_rank : test ≡ is_lt (ordering_then (nat_cmp one.0.rank other.0.rank) rest) =
+    is_lt-same one.0.group other.0.group _ (p.0 ∙ sym q.0) ∙ is_lt-same one.0.class other.0.class _ (p.1 ∙ sym q.1) in
+    let first : test ≡ true → one.0.rank ≤ other.0.rank → option_map (λ (e : Entry). e.0.rank) (lesser (Some one) (Some other)) ≡ Some (min one.0.rank other.0.rank) =
+    λ is le. ap (option_map (λ (e : Entry). e.0.rank)) (cond-true test (Some one) (Some other) is) ∙ ap Some (omega (arith, le)) in
+    let second : test ≡ false → other.0.rank ≤ one.0.rank → option_map (λ (e : Entry). e.0.rank) (lesser (Some one) (Some other)) ≡ Some (min one.0.rank other.0.rank) =
+    λ is le. ap (option_map (λ (e : Entry). e.0.rank)) (cond-false test (Some one) (Some other) is) ∙ ap Some (omega (arith, le)) in
+    elim (cases_order one.0.rank other.0.rank) [
+      | inl same ↦
+          elim (cases_Bool test) [
+            | inl is ↦ first is (omega (arith, same))
+            | inr is ↦ second is (omega (arith, same))
+          ]
+      | inr (inl less) ↦ first (by_rank ∙ ap (λ r. is_lt (ordering_then r rest)) (sym (nat_cmp_is _ _ Less less))) (omega (arith, less))
+      | inr (inr more) ↦ second (by_rank ∙ ap (λ r. is_lt (ordering_then r rest)) (sym (nat_cmp_is _ _ Greater more))) (omega (arith, more))
+    ]
+
+-- the keys in a tree are such where they are with an entry beside it, whose key is one too
+module _ (entry : Entry) (tree : Ordered) (of_class : IsOfClass (with_recent (Some entry) tree.members)) where
+  recent-of_class : IsRankKey entry.0
+  recent-of_class = of_class entry.0 (contains_key-at entry.0 (Some entry) tree (ap is_eq (tied_itself key_total entry.0)))
+
+  tree-of_class : IsOfClass tree.members
+  tree-of_class key there =
+      of_class key
+      (ap is_some (get-insert key_total tree.members entry.0 entry.1 key)
+      ∙ (elim (cases_Bool (eq_by_cmp key_cmp key entry.0)) [
+        | inl tie ↦ ap is_some (cond-true _ (Some entry.1) (get tree.members key) tie)
+        | inr apart ↦ ap is_some (cond-false _ (Some entry.1) (get tree.members key) apart) ∙ there
+      ]))
+
+  -- the least rank where the tree has one, and where it has none
+  module _ (beside : IsBeside tree entry) where
+    least_of : (least : Option Entry) → first_of tree.members ≡ least → (rank : Option ℕ) → rank ≡ option_map (λ (e : Entry). e.0.rank) least →
+        option_map (λ (e : Entry). e.0.rank) (first_of (with_recent (Some entry) tree.members)) ≡ Some (least_with entry.0.rank rank)
+    least_of None is rank rank_is =
+        ap (option_map (λ (e : Entry). e.0.rank)) (first_of-recent (Some entry) tree beside ∙ ap (lesser (Some entry)) is)
+        ∙ ap (λ (o : Option ℕ). Some (least_with entry.0.rank o)) (sym rank_is)
+    least_of (Some other) is rank rank_is =
+        ap (option_map (λ (e : Entry). e.0.rank)) (first_of-recent (Some entry) tree beside ∙ ap (lesser (Some entry)) is)
+        ∙ lesser-rank entry other recent-of_class (first-of_class other (entries tree.members) (each tree.members tree-of_class) is)
+        ∙ ap (λ (o : Option ℕ). Some (least_with entry.0.rank o)) (sym rank_is)
+
+pub least_rank-recent : (recent : Option Entry) (entry : Entry) (tree : Ordered) → recent ≡ Some entry → StandsBeside recent tree →
+    IsOfClass (with_recent recent tree.members) → (rank : Option ℕ) → rank ≡ option_map (λ (e : Entry). e.0.rank) (first_of tree.members) →
+    option_map (λ (e : Entry). e.0.rank) (first_of (with_recent recent tree.members)) ≡ Some (least_with entry.0.rank rank)
+least_rank-recent recent entry tree is =
+    subst
+    (λ (o : Option Entry). StandsBeside o tree → IsOfClass (with_recent o tree.members) → (rank : Option ℕ) → rank ≡ option_map (λ (e : Entry). e.0.rank) (first_of tree.members) →
+    option_map (λ (e : Entry). e.0.rank) (first_of (with_recent o tree.members)) ≡ Some (least_with entry.0.rank rank))
+    (sym is) (λ beside of_class. least_of entry tree of_class beside (first_of tree.members) refl)
 
 pub no_ranked : (members : Members) → members ≡ empty → map_renamed queue.key_cmp rank_at members ≡ empty
 no_ranked members is = empty_of_len _ (len-ranked members (IsOfClass-empty members is) ∙ ap len is ∙ len-empty key_cmp ℕ)

@@ -224,6 +224,15 @@ module _ (key : Key) where
     spare = omega (arith, beside.spare);
   }
 
+-- a node is spare for the entry
+pub fits-recent : (recent : Option Entry) (tree : Ordered) → StandsBeside recent tree → option_len recent ≤ tree.spare
+fits-recent None tree beside = omega arith
+fits-recent (Some entry) tree beside = omega (arith, beside.spare)
+
+-- the entry that is at a key has it
+pub key-at : (key : Key) (recent : Option Entry) (entry : Entry) → recent ≡ Some entry → is_at recent key ≡ true → key ≡ entry.0
+key-at key recent entry is at = key_cmp-IsAntisymmetric key entry.0 (equal_by _ (ap (λ (o : Option Entry). is_at o key) (sym is) ∙ at))
+
 -- as many nodes are spare once all are taken out as were spare before and stood in it
 pub spare-recent : (recent : Option Entry) (tree : Ordered) → StandsBeside recent tree →
     (tree.spare - option_len recent) + len (with_recent recent tree.members) ≡ tree.spare + len tree.members

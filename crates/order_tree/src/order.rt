@@ -3,6 +3,7 @@
 ghost use Rattle.std.specs.Prelude as list;
 ghost use Rattle.std.specs.Prelude.{◌≡◌, ◌+◌, ◌*◌, ◌^◌, ◌<◌, ◌≤◌, max, None, OnOk, OnErr, if◌then◌else◌, length, slice_get, vec_capacity, ◌++◌, IsTrue};
 ghost use Rattle.std.specs.FinMap as map;
+ghost use Rattle.std.specs.Option.{option_map};
 ghost use Rattle.cs_types.specs.Comparisons.{digits};
 ghost use Rattle.order_tree.specs.Anew.{rekeyed};
 ghost use Rattle.order_tree.specs.Order.{key_cmp, stamped, first_of, first_from, next_of};
@@ -157,6 +158,17 @@ impl OrderTree {
         ensures { result ≡ first_of self.now.members }
     {
         self.first
+    }
+
+    /// The rank of the least key. `None` exactly where there is no key.
+    #[inline(always)]
+    pub fn least_rank(&self) -> Option<u128>
+        ensures { result ≡ option_map (λ entry. entry.0.rank) (first_of self.now.members) }
+    {
+        let Some((key, _)) = &self.first else {
+            return None;
+        };
+        Some(key.rank)
     }
 
     /// The least key that is not below this one, and the pid there. `None` exactly where each key is

@@ -74,8 +74,7 @@ impl RankTree {
         ensures counted { steps.new ≤ steps.old + most_comparisons (len self.old.members)
             + most_comparisons (len (remove self.old.members (rank, stamp))) }
     {
-        self.tree.remove(&key(rank, stamp), steps);
-        self.tree.insert(key(later, stamp), pid, steps);
+        self.tree.set_rank(&key(rank, stamp), later, pid, steps);
     }
 
     /// The least rank. `None` exactly where there is no task.
@@ -84,8 +83,7 @@ impl RankTree {
         ensures least { result ≡ least_rank self.now.members }
         ensures counted { steps.new ≤ steps.old + 1 }
     {
-        let first = self.tree.first(steps)?;
-        Some(first.0.rank)
+        self.tree.least_rank(steps)
     }
 
     /// Each task is told by its stamp and its pid, in any order.

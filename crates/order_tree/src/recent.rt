@@ -4,9 +4,11 @@
 ghost use Rattle.std.specs.Prelude as list;
 ghost use Rattle.std.specs.Prelude.{◌≡◌, ◌+◌, ◌<◌, ◌≤◌, ◌++◌, length, max, None, OnOk, OnErr, if◌then◌else◌, IsPermutation, IsTrue};
 ghost use Rattle.std.specs.FinMap as map;
+ghost use Rattle.std.specs.Option.{option_map};
 ghost use Rattle.cs_types.specs.Comparisons.{most_comparisons};
 ghost use Rattle.order_tree.specs.Anew.{rekeyed};
 ghost use Rattle.order_tree.specs.Order.{key_cmp, stamped, first_of, first_from, next_of};
+ghost use Rattle.order_tree.specs.Rank.{IsOfClass};
 ghost use Rattle.order_tree.specs.Recent.{reaching, is_at};
 
 use crate::key::Key;
@@ -98,7 +100,30 @@ impl RecentTree {
             self.recent = None;
             return true;
         }
-        self.tree.remove(key, steps)
+        // The key is copied, so that that of the caller stays in registers where it is not looked for in the tree.
+        self.tree.remove(&Key { ..*key }, steps)
+    }
+
+    /// The pid at a key, which is there, has another rank, at which none is. Where it was put last nothing moves.
+    #[inline(always)]
+    pub fn set_rank<L: Ledger>(&mut self, key: &Key, rank: u128, pid: Pid, steps: &mut Steps<L>)
+        requires there { IsTrue (map.contains_key self.old.members key.now) }
+        requires free { map.get (map.remove self.old.members key.now) (record key.now { rank = rank }) ≡ None }
+        ensures members { self.new.members ≡ map.insert (map.remove self.old.members key.now) (record key.now { rank = rank }) pid }
+        ensures spare { self.new.spare ≡ self.old.spare }
+        ensures counted { steps.new ≤ steps.old + most_comparisons (map.len self.old.members)
+            + most_comparisons (map.len (map.remove self.old.members key.now)) }
+    {
+        if is_at(&self.recent, key, steps) {
+            let Some((last, other)) = &mut self.recent else {
+                unreachable!()
+            };
+            last.rank = rank;
+            *other = pid;
+            return;
+        }
+        self.tree.remove(&Key { ..*key }, steps);
+        self.insert(Key { rank, ..*key }, pid, steps);
     }
 
     /// Takes out all pids. It compares no key.
@@ -141,6 +166,24 @@ impl RecentTree {
         ensures counted { steps.new ≤ steps.old + 1 }
     {
         lesser(self.recent, self.tree.first(), steps)
+    }
+
+    /// The rank of the least key, where all keys are of one group and one class: the lesser one of two ranks, whatever
+    /// the stamps are. `None` exactly where there is no key.
+    #[inline(always)]
+    pub fn least_rank<L: Ledger>(&self, steps: &mut Steps<L>) -> Option<u128>
+        requires alike { IsOfClass self.now.members }
+        ensures least { result ≡ option_map (λ entry. entry.0.rank) (first_of self.now.members) }
+        ensures counted { steps.new ≤ steps.old + 1 }
+    {
+        let Some((key, _)) = &self.recent else {
+            return self.tree.least_rank();
+        };
+        let Some(rank) = self.tree.least_rank() else {
+            return Some(key.rank);
+        };
+        steps.tick();
+        Some(key.rank.min(rank))
     }
 
     /// The least key that is not below this one, and the pid there. `None` exactly where each key is

@@ -1,60 +1,68 @@
-use Rattle.std.proofs.Common.{◌≡◌, ◌+◌, true, cond, ap, sym, ◌∙◌, arith}
+use Rattle.std.proofs.Common.{◌≡◌, refl, ap, sym, ◌∙◌}
 use Rattle.std.specs.Prelude.{is_some}
 use Rattle.std.specs.FinMap as fin
 use Rattle.cs_types.specs.Queue as queue
+use Rattle.order_tree.specs.Order.{Members}
 use Rattle.order_tree.specs.Rank.{key_at, IsOfClass}
+use Rattle.order_tree.specs.declared.key.Key.{Key}
 use Rattle.order_tree.proofs.Ranks.{ranked, get-ranked, len-ranked, IsOfClass-insert, IsOfClass-remove, ranked-insert, ranked-remove}
-use Rattle.order_tree.proofs.rank.RankTree.set_rank.Given as given
 use Rattle.order_tree.proofs.rank.RankTree.set_rank.Goals as goal
 
--- what is left while it is out
-module _ (g : given.Over) (c : goal.After-insert-arg-2-1 g) where
-  is_left : c.remove.new.self.members ≡ fin.remove c.self.inside.tree.members (key_at (c.args.rank, c.args.stamp))
-  is_left = c.remove.ensures.members ∙ ap (λ key. fin.remove c.self.inside.tree.members key) c.key.ensures
+-- what is left while a task is out
+module _ (members : Members) (is_of_class : IsOfClass members) (place : queue.Key) where
+  abbrev left : Members
+  left = fin.remove members (key_at place)
 
-  of_class : IsOfClass c.remove.new.self.members
-  of_class = IsOfClass-remove c.self.inside.tree.members c.self.invariant c.remove.new.self.members (c.args.rank, c.args.stamp) is_left
+  of_class : IsOfClass left
+  of_class = IsOfClass-remove members is_of_class left place refl
 
-  left : ranked c.remove.new.self.members of_class ≡ fin.remove (ranked c.self.inside.tree.members c.self.invariant) (c.args.rank, c.args.stamp)
-  left = ranked-remove c.self.inside.tree.members c.self.invariant c.remove.new.self.members (c.args.rank, c.args.stamp) is_left
+  left-ranked : ranked left of_class ≡ fin.remove (ranked members is_of_class) place
+  left-ranked = ranked-remove members is_of_class left place refl
 
-  found : c.remove.result ≡ true
-  found =
-      c.remove.ensures.found ∙ ap (λ key. fin.contains_key c.self.inside.tree.members key) c.key.ensures
-      ∙ ap is_some (sym (get-ranked c.self.inside.tree.members c.self.invariant (c.args.rank, c.args.stamp)))
-      ∙ (rw (← c.self.view_is) at c.requires.there)
+pub set_rank-requires-clause-there : goal.set_rank-requires-clause-there
+set_rank-requires-clause-there g c =
+    ap (λ key. fin.contains_key c.self.inside.tree.members key) c.key.ensures
+    ∙ ap is_some (sym (get-ranked c.self.inside.tree.members c.self.invariant (c.args.rank, c.args.stamp)))
+    ∙ (rw (← c.self.view_is) at c.requires.there)
 
-  one_more : c.remove.new.self.spare ≡ c.self.inside.tree.spare + 1
-  one_more = c.remove.ensures.spare ∙ ap (λ b. c.self.inside.tree.spare + cond b 1 0) found
-
-pub insert-requires-clause-spare : goal.insert-requires-clause-spare
-insert-requires-clause-spare g c = omega (arith, one_more g c)
-
-pub insert-requires-clause-free : goal.insert-requires-clause-free
-insert-requires-clause-free g c =
-    let place : queue.Key = (c.args.later, c.args.stamp) in
-    ap (fin.get c.remove.new.self.members) c.key-2.ensures
-    ∙ sym (get-ranked c.remove.new.self.members (of_class g c) place)
-    ∙ ap (λ (members : queue.Members). fin.get members place) (left g c)
+pub set_rank-requires-clause-free : goal.set_rank-requires-clause-free
+set_rank-requires-clause-free g c =
+    let members = c.self.inside.tree.members in
+    let place : queue.Key = (c.args.rank, c.args.stamp) in
+    let later : queue.Key = (c.args.later, c.args.stamp) in
+    ap (λ (key : Key). fin.get (fin.remove members key) (record key { rank = c.args.later })) c.key.ensures
+    ∙ sym (get-ranked (left members c.self.invariant place) (of_class members c.self.invariant place) later)
+    ∙ ap (λ (m : queue.Members). fin.get m later) (left-ranked members c.self.invariant place)
     ∙ (rw (← c.self.view_is) at c.requires.free)
 
 pub invariant_of-self : goal.invariant_of-self
 invariant_of-self g c =
-    IsOfClass-insert c.remove.new.self.members (of_class g c.before) c.insert.new.self.members (c.args.later, c.args.stamp) c.args.pid
-    (c.insert.ensures.members ∙ ap (λ key. fin.insert c.remove.new.self.members key c.args.pid) c.key-2.ensures)
+    let members = c.self.inside.tree.members in
+    let place : queue.Key = (c.args.rank, c.args.stamp) in
+    IsOfClass-insert (left members c.self.invariant place) (of_class members c.self.invariant place) c.set_rank.new.self.members (c.args.later, c.args.stamp) c.args.pid
+    (c.set_rank.ensures.members ∙ ap (λ (key : Key). fin.insert (fin.remove members key) (record key { rank = c.args.later }) c.args.pid) c.key.ensures)
 
 pub returns-clause-members : goal.returns-clause-members
 returns-clause-members g c =
-    let place : queue.Key = (c.args.later, c.args.stamp) in
+    let members = c.self.inside.tree.members in
+    let place : queue.Key = (c.args.rank, c.args.stamp) in
+    let later : queue.Key = (c.args.later, c.args.stamp) in
     rw (← c.self.view_is)
-    (ranked-insert c.remove.new.self.members (of_class g c.before) c.insert.new.self.members place c.args.pid
-    (c.insert.ensures.members ∙ ap (λ key. fin.insert c.remove.new.self.members key c.args.pid) c.key-2.ensures)
-    ∙ ap (λ (members : queue.Members). fin.insert members place c.args.pid) (left g c.before))
+    (ranked-insert (left members c.self.invariant place) (of_class members c.self.invariant place) c.set_rank.new.self.members later c.args.pid
+    (c.set_rank.ensures.members ∙ ap (λ (key : Key). fin.insert (fin.remove members key) (record key { rank = c.args.later }) c.args.pid) c.key.ensures)
+    ∙ ap (λ (m : queue.Members). fin.insert m later c.args.pid) (left-ranked members c.self.invariant place))
 
 pub returns-clause-spare : goal.returns-clause-spare
-returns-clause-spare g c = rw (← c.self.view_is) (omega (arith, c.insert.ensures.spare, one_more g c.before))
+returns-clause-spare g c = rw (← c.self.view_is) c.set_rank.ensures.spare
 
 pub returns-clause-counted : goal.returns-clause-counted
 returns-clause-counted g c =
-    rw (← c.self.view_is, ← left g c.before, len-ranked c.self.inside.tree.members c.self.invariant, len-ranked c.remove.new.self.members (of_class g c.before))
-    (omega (arith, c.remove.ensures.counted, c.insert.ensures.counted))
+    let members = c.self.inside.tree.members in
+    let place : queue.Key = (c.args.rank, c.args.stamp) in
+    rw (
+      ← c.self.view_is,
+      ← left-ranked members c.self.invariant place,
+      len-ranked members c.self.invariant,
+      len-ranked (left members c.self.invariant place) (of_class members c.self.invariant place),
+    )
+    (rw (c.key.ensures) at c.set_rank.ensures.counted)
