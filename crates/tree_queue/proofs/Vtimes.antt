@@ -4,15 +4,17 @@ use Rattle.std.specs.Prelude.{◌==◌, ◌&&◌, ◌||◌, filter, IfSome}
 use Rattle.std.specs.List.{AllByRecursion}
 use Rattle.std.specs.Option.{option_map, option_map_or}
 use Rattle.std.proofs.ByRecursion.{kept_by_passes}
-use Rattle.std.proofs.lemmas.Bool.{eqb-true}
+use Rattle.std.proofs.lemmas.Bool.{eqb-true, eq-eqb}
 use Rattle.std.proofs.lemmas.Bool.Decides.{nat_tests}
 use Rattle.std.proofs.Common.{arith}
 use Rattle.cs_types.specs.declared.task.Task.{Task}
 use Rattle.cs_types.specs.declared.task.Policy.{Policy}
 use Rattle.cs_types.specs.declared.task.Policy.TheVariants.{Stop, Deadline, Fifo, Rr, Fair}
-use Rattle.cs_types.specs.Queue.{rank_by}
+use Rattle.cs_types.specs.declared.queue.Queued.{Queued}
+use Rattle.cs_types.specs.Queue.{rank_by, queued_of}
 use Rattle.cs_types.specs.Order.{fair_class, class_of, is_fair, foremost, goes_before, first_of}
 use Rattle.cs_types.proofs.First.{goes_before_is_order}
+use Rattle.cs_types.proofs.Filtered.{foremost-filter}
 use Rattle.cs_types.proofs.Queues.{foremost-cons}
 use Rattle.core_lanes.specs.Queued.{smallest_vtime}
 use Rattle.core_lanes.proofs.Lists.{less_is_order}
@@ -65,3 +67,16 @@ smallest-rank tasks =
           option_map (λ (t : Task). t.vtime) first ≡ option_map (λ (t : Task). rank_by t.spec.policy t.deadline t.vtime) first
       go None fair = refl
       go (Some t) fair = ap Some (sym (rank-fair t.spec.policy t.deadline t.vtime fair))
+
+-- and where the first task of all is fair, that is its rank
+pub smallest_first : (tasks : List Task) (first : Queued) → Some first ≡ option_map queued_of (first_of tasks) → first.class ≡ fair_class →
+    smallest_vtime tasks ≡ Some first.rank
+smallest_first tasks first is fair = go (first_of tasks) refl is where
+  go : (found : Option Task) → first_of tasks ≡ found → Some first ≡ option_map queued_of found → smallest_vtime tasks ≡ Some first.rank
+  go None at is = absurd cc
+  go (Some task) at is =
+      let same : first ≡ queued_of task = cc in
+      smallest-rank tasks
+      ∙ ap (option_map (λ (t : Task). rank_by t.spec.policy t.deadline t.vtime))
+      (foremost-filter goes_before goes_before_is_order is_fair tasks task at (eq-eqb (class_of task.spec.policy) fair_class (ap (λ (queued : Queued). queued.class) (sym same) ∙ fair)))
+      ∙ ap (λ (queued : Queued). Some queued.rank) (sym same)

@@ -175,6 +175,12 @@ impl SiblingQueue for TreeQueue {
         _cpu: Cpu,
         steps: &mut Steps<L>,
     ) -> Option<u128> {
+        // A fair task that is the first of all is the first of the fair ones.
+        if let Some(first) = &self.first {
+            if first.class == Queued::FAIR {
+                return Some(first.rank);
+            }
+        }
         self.run.least_fair(steps)
     }
 

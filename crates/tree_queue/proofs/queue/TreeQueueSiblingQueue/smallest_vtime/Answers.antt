@@ -7,8 +7,18 @@ use Rattle.run_queue.specs.Fair.{least_rank_in}
 use Rattle.core_lanes.specs.Queued.{queued_among}
 use Rattle.run_queue.proofs.Asked.{IsLow}
 use Rattle.tree_queue.proofs.Asked.{low_among, first_told}
-use Rattle.tree_queue.proofs.Vtimes.{smallest-rank}
+use Rattle.tree_queue.proofs.Firsts.{first_at-first_of}
+use Rattle.tree_queue.proofs.Vtimes.{smallest-rank, smallest_first}
 use Rattle.tree_queue.proofs.queue.TreeQueueSiblingQueue.smallest_vtime.Goals as goal
+
+pub returns-then-first-eq-FAIR-clause-answer : goal.returns-then-first-eq-FAIR-clause-answer
+returns-then-first-eq-FAIR-clause-answer g c =
+    let tasks = c.args._table.now.tasks in
+    let queued = queued_among tasks c.args._cpu in
+    sym
+    (smallest_first queued _
+    (sym c.in-Some.is ∙ c.requires.holds.first_is ∙ first_at-first_of queued (recursion_from_All IsLow queued (low_among tasks c.args._cpu c.requires.policies)))
+    c.if-first-eq-FAIR.true)
 
 pub returns : goal.returns
 returns g c = record {
