@@ -42,5 +42,9 @@ pub fn grow(delta: u64, nice: i8) -> u128
     requires { IsNice nice }
     ensures { result ≡ growth delta nice }
 {
-    u128::from(delta) * 1024 / u128::from(weight(nice))
+    // Where the product fits 64 bits, as it does for each advance of a scenario, so does its division.
+    match delta.checked_mul(1024) {
+        Some(scaled) => u128::from(scaled / u64::from(weight(nice))),
+        None => u128::from(delta) * 1024 / u128::from(weight(nice)),
+    }
 }
