@@ -1,7 +1,7 @@
 //! What an advance of the clock and a tick of a sibling's timer do. It is a file of its own since these
 //! alone move time.
 
-ghost use Rattle.std.specs.Prelude.{if◌then◌else◌, ◌≡◌, ℕ, ◌+◌, ◌*◌, ◌^◌, ◌<◌, map, length, All, find, Some};
+ghost use Rattle.std.specs.Prelude.{if◌then◌else◌, ◌≡◌, ℕ, ◌+◌, ◌*◌, ◌^◌, ◌<◌, max, map, length, All, find, Some};
 ghost use Rattle.cs_types.specs.declared.task.Task.{Task as SomeTask};
 ghost use Rattle.cs_types.specs.Room.{has_pid};
 ghost use Rattle.cs_types.specs.Time as time;
@@ -50,7 +50,8 @@ fn grow_on<Q: SiblingQueue, L: Ledger>(
         }
         Policy::Fair(nice) => {
             let vtime = task.vtime + grow(delta, nice);
-            core.set_vtime(table, pid, vtime, steps);
+            core.set_vtime_in_queue(table, task, vtime, steps);
+            table.set_vtime(pid, vtime);
         }
         _ => {}
     }
@@ -72,6 +73,15 @@ fn grow_tasks<Q: SiblingQueue, L: Ledger>(
     }
 }
 
+/// The least virtual time rises to the smallest one, where it is below that. Mostly it is not, and then nothing is written.
+fn raise(least: &mut u128, smallest: u128)
+    ensures { least.new ≡ max least.old smallest }
+{
+    if *least < smallest {
+        *least = smallest;
+    }
+}
+
 /// The siblings have run `delta` ns longer, and the least virtual time of each becomes the greater of itself
 /// and the smallest of the fair tasks that are queued there.
 fn renew_siblings<Q: SiblingQueue, L: Ledger>(
@@ -89,7 +99,7 @@ fn renew_siblings<Q: SiblingQueue, L: Ledger>(
         let lane = &mut core.lanes[cpu];
         lane.ran += delta;
         if let Some(smallest) = lane.queue.smallest_vtime(table, cpu as u8, steps) {
-            lane.least = lane.least.max(smallest);
+            raise(&mut lane.least, smallest);
         }
     }
 }

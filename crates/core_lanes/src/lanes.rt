@@ -244,9 +244,10 @@ impl<Q: SiblingQueue> Core<Q> {
         table.give_cookie(task.spec.pid, cookie);
     }
 
-    /// The queue that the fair task stands in, if one, has it as it is with this virtual time.
+    /// The queue that the fair task stands in, if one, has it as it is with this virtual time, in ns (`update_curr`). The
+    /// table is to follow.
     #[inline(always)]
-    fn set_vtime_in_queue<L: Ledger>(
+    pub fn set_vtime_in_queue<L: Ledger>(
         &mut self,
         table: &TaskTable,
         task: &Task,
@@ -263,27 +264,6 @@ impl<Q: SiblingQueue> Core<Q> {
                 .queue
                 .set_vtime(table, task.home, task, vtime, steps);
         }
-    }
-
-    /// The fair task with the pid has this virtual time, in ns, in the table and in the queue that it stands in, if
-    /// one (`update_curr`).
-    #[inline(always)]
-    pub fn set_vtime<L: Ledger>(
-        &mut self,
-        table: &mut TaskTable,
-        pid: Pid,
-        vtime: u128,
-        steps: &mut Steps<L>,
-    )
-        requires fair { IsSomeAnd (find (has_pid pid) table.old.tasks) (λ task. IsTrue (is_fair task)) }
-        requires agree { Agree (self.old, table.old) }
-        ensures changes { (task : SomeTask) → find (has_pid pid) table.old.tasks ≡ Some task →
-            Changes (self.old, table.old) (self.new, table.new) (λ room. with_task room (record task { vtime = vtime })) }
-        ensures counted { ComparesFor 2 (self.old, table.old) steps.old steps.new }
-    {
-        let task = table.find(pid).unwrap();
-        self.set_vtime_in_queue(table, task, vtime, steps);
-        table.set_vtime(pid, vtime);
     }
 
     /// The queue of a sibling, whose tasks are about to leave, is empty. The list, which has as many places, tells

@@ -73,14 +73,14 @@ loop-cpu-preserved g c =
     let counted = and_then cpu 1 (cpu + 1) old _ _ _ refl c.loop-cpu.invariant.counted once in
     elim c.match-smallest_vtime.branch [
       | in-Some w ↦
-          let after = record lane { ran = lane.ran + c.args.delta; least = w.max-lane.result } in
+          let after = record lane { ran = lane.ran + c.args.delta; least = w.raise.new.least } in
           record {
             changes = subst (λ (new : cores). Changes old (new, c.args.table.now) (renewed_first c.args.delta (cpu + 1))) (sym w.core-is)
                 (more_renewed old mid _ c.args.delta cpu below c.loop-cpu.invariant.changes (record {
                   room = λ beside.
                       let room = room_of beside mid in
                       ap (λ (siblings : List SiblingState). let now : RoomState = record room { siblings = siblings } in now) (map-set lane_state lanes cpu after)
-                      ∙ ap (λ (n : ℕ). with_sibling room cpu (let now : SiblingState = record (lane_state lane) { ran = lane.ran + c.args.delta; least = n } in now)) w.max-lane.ensures
+                      ∙ ap (λ (n : ℕ). with_sibling room cpu (let now : SiblingState = record (lane_state lane) { ran = lane.ran + c.args.delta; least = n } in now)) w.raise.ensures
                       ∙ renewed_is c.args.delta room cpu (lane_state lane) (Some w.in-Some.smallest) here (sym w.in-Some.is ∙ c.smallest_vtime.ensures.answer);
                   numbers = rw (numbers_kept lanes cpu lane after is refl) refl;
                   stays = alike_stays _ _ (queues_kept lanes cpu lane after is refl) refl refl;
