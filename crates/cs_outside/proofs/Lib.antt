@@ -2,3 +2,4 @@ pub mod Gathers
 pub mod Pieces
 pub mod Written
 pub mod Reached
+pub mod Lots

@@ -1,5 +1,5 @@
 -- Guards, as they stand between two calls, and what keeps a pair from being taught.
-use Rattle.std.specs.Prelude.{◌≡◌, ◌==◌, ◌&&◌, ℕ, Bool, List, []}
+use Rattle.std.specs.Prelude.{◌≡◌, ◌==◌, ◌&&◌, ◌%◌, ℕ, Bool, true, false, List, [], All, slice_index_or}
 use Rattle.cs_outside.specs.declared.guard.TeachFault.{TeachFault}
 use Rattle.cs_outside.specs.declared.guard.TeachFault.TheVariants.{Full, OutOfMemory}
 
@@ -15,6 +15,14 @@ pair_guard_cap = 16
 pub record PairGuardState : Type 0 where
   pub pairs : List (ℕ × ℕ)
   pub asked : ℕ
+
+-- the lot of a caller by its real user id
+abbrev pub lot_of : ℕ → ℕ
+lot_of from = from % 64
+
+-- the callers of these pairs are of these lots
+abbrev pub AreOfLots : List Bool → List (ℕ × ℕ) → Type 0
+AreOfLots lots pairs = All (λ pair. slice_index_or lots (lot_of pair.0) false ≡ true) pairs
 
 -- one that refuses nobody yet and was never asked
 abbrev pub fresh : PairGuardState

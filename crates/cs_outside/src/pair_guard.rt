@@ -2,7 +2,7 @@
 
 ghost use Rattle.std.specs.Prelude.{◌≡◌, ◌+◌, ◌<◌, ◌^◌, [], ◌∷◌, ◌++◌, length, not, OnOk, OnErr, IfErr};
 ghost use Rattle.std.specs.List.{list_any};
-ghost use Rattle.cs_outside.specs.Guard.{is_pair, pair_guard_cap, fresh};
+ghost use Rattle.cs_outside.specs.Guard.{is_pair, pair_guard_cap, fresh, lot_of};
 ghost use Rattle.cs_outside.specs.declared.guard.TeachFault.TheVariants.{Full};
 
 use crate::guard::{Guard, TeachFault};
@@ -12,24 +12,36 @@ use std::marker::Model;
 /// How many pairs a guard of this type can be taught.
 const MOST_PAIRS: usize = 16;
 
+/// How many lots of callers there are. The real user ids of those of one lot differ by a multiple of it.
+const LOTS: usize = 64;
+
 /// A guard that holds its pairs in place, so that teaching takes no memory.
 #[derive(Drop)]
 pub struct PairGuard {
     places: [(u32, u32); MOST_PAIRS],
     /// How many pairs it was taught. They stand in the first places.
     count: usize,
+    /// Of which lots the callers of its pairs are. Most callers are of none of these, and are looked for no further.
+    lots: [bool; LOTS],
     asked: u64,
 }
 
 impl Model for PairGuard {
     ghost use Rattle.std.specs.Prelude.{◌≤◌, take};
-    ghost use Rattle.cs_outside.specs.Guard.{PairGuardState, pair_guard_cap};
+    ghost use Rattle.cs_outside.specs.Guard.{PairGuardState, pair_guard_cap, AreOfLots};
 
     ghost Value = { PairGuardState };
 
     ghost view = { λ guard. record { pairs = take guard.count guard.places; asked = guard.asked } };
 
-    ghost invariant = { λ guard. guard.count ≤ pair_guard_cap };
+    ghost invariant = { λ guard. (guard.count ≤ pair_guard_cap) × AreOfLots guard.lots (take guard.count guard.places) };
+}
+
+/// The lot of the caller with this real user id.
+fn lot_of(from: u32) -> usize
+    ensures { result ≡ lot_of from }
+{
+    from as usize % LOTS
 }
 
 impl PairGuard {
@@ -40,6 +52,7 @@ impl PairGuard {
         PairGuard {
             places: [(0, 0); MOST_PAIRS],
             count: 0,
+            lots: [false; LOTS],
             asked: 0,
         }
     }
@@ -66,6 +79,7 @@ impl Guard for PairGuard {
             });
         }
         self.places[self.count] = (from, to);
+        self.lots[lot_of(from)] = true;
         self.count += 1;
         Ok(())
     }
@@ -77,6 +91,9 @@ impl Guard for PairGuard {
         ensures asked { self.new ≡ record self.old { asked = self.old.asked + 1 } }
     {
         self.asked += 1;
+        if !self.lots[lot_of(from)] {
+            return true;
+        }
         !lists(&self.places[..self.count], from, to)
     }
 
