@@ -205,6 +205,7 @@ impl<Q: SiblingQueue> Core<Q> {
     }
 
     /// The queue that the task stands in, if one, has it as it is with this cookie.
+    #[inline(always)]
     fn set_cookie_in_queue<L: Ledger>(
         &mut self,
         table: &TaskTable,

@@ -17,6 +17,7 @@ use task_table::{Group, TaskTable};
 
 /// Whether the caller may access every member of the group. They are asked by rising pid, up to the
 /// first that is refused.
+#[inline(always)]
 fn may_access_all<G: Guard>(
     table: &TaskTable,
     guards: &mut Guards<G>,
@@ -38,6 +39,7 @@ fn may_access_all<G: Guard>(
 }
 
 /// The members of the call's scope, or EPERM where one of them may not be accessed.
+#[inline(always)]
 pub fn members<G: Guard>(
     table: &TaskTable,
     guards: &mut Guards<G>,

@@ -52,6 +52,7 @@ fn get(called: &Called<'_>, addr: u64, user_top: u64) -> Planned
 
 /// The tasks get the cookie, to which the plan holds a reference. Where the call is refused, that is
 /// given back.
+#[inline(always)]
 fn give(refs: &mut CookieRefs, cookie: Cookie, to: Result<Target, Errno>) -> Planned
     requires held { cookie ≢ 0 → 0 < count_of refs.old cookie }
     ensures plan { result ≡ gift cookie to }
@@ -98,6 +99,7 @@ fn create<G: Guard>(
 }
 
 /// What a command comes to that gives a cookie which a task has.
+#[inline(always)]
 fn share(
     table: &TaskTable,
     refs: &mut CookieRefs,

@@ -56,6 +56,7 @@ fn kernel_decision(caller: &TaskSpec, target: &TaskSpec) -> Option<bool>
 /// nothing, the active guards are asked about the two real users, in the order of loading, up to the first
 /// that refuses. Each counts that it was asked. So nobody is asked about a task of the thread group, nor
 /// where the kernel refuses. It takes no memory.
+#[inline(always)]
 pub fn may_access<G: Guard>(caller: &TaskSpec, target: &TaskSpec, guards: &mut Guards<G>) -> bool
     requires asked { All (λ guard. guard.asked < 2 ^ 63) guards.old.guards.all }
     ensures decision { result ≡ may_access guards.old.guards caller.now target.now }

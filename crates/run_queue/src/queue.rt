@@ -147,6 +147,7 @@ impl RunQueue {
     /// The task, which is there with its pid and its cookie, gets this cookie (`sched_core_update_cookie`,
     /// kernel/sched/core_sched.c): it leaves the cookie order at its old one and enters it at the new one, where
     /// these are not 0. The queue of its class is not touched.
+    #[inline(always)]
     pub fn set_cookie<L: Ledger>(&mut self, task: &Queued, cookie: Cookie, steps: &mut Steps<L>)
         requires ranked { IsRanked task.now }
         requires there { IsTrue (map.contains_key self.old.tasks (seat_of task.now)) }

@@ -72,6 +72,7 @@ impl SiblingQueue for TreeQueue {
         }
     }
 
+    #[inline(always)]
     fn set_cookie<L: Ledger>(
         &mut self,
         _table: &TaskTable,
