@@ -64,6 +64,7 @@ fn take<Q: Drop>(
 
 /// It gets this in a selection for the core, where it is online. The tests say whether it makes the selection itself,
 /// and whether snapshots are renewed.
+#[inline(always)]
 pub fn hand<Q: Drop>(
     lane: &mut Lane<Q>,
     selects: bool,
@@ -74,12 +75,18 @@ pub fn hand<Q: Drop>(
     ensures state { (room : RoomState) (cookie selector cpu : ℕ) → given.now ≡ choice_of (choice room cookie cpu) → IsHanded room cookie selector cpu selects occupation renews lane.old lane.new }
     ensures own { kept_in_selection lane.new ≡ kept_in_selection lane.old }
 {
-    take(
-        lane,
-        selects,
-        given.run(),
-        given.is_fair(),
-        occupation,
-        renews,
-    );
+    // Each call is for one of them alone, so that what it does for the other falls away.
+    if given.is_idle() {
+        take(lane, selects, None, false, occupation, renews);
+    } else {
+        let pid = given.pid;
+        take(
+            lane,
+            selects,
+            Some(pid),
+            given.is_fair(),
+            occupation,
+            renews,
+        );
+    }
 }
