@@ -74,24 +74,32 @@ module _ (room : RoomState) (core cpu : ℕ) (counts now : Counts) where
         go true None got is same = (ap (λ (n : Option Task). is_none n && false) same, ap is_some same)
         go true (Some task) got is same = absurd cc
 
-  pub counted_offline : is_online room cpu ≡ false → IsCounted room core cpu counts counts
-  counted_offline offline = record {
-    forced = omega (arith, ap {B = ℕ} (λ b. cond (b && is_forced room core cpu) 1 0) offline);
-    occupation = omega (arith, ap {B = ℕ} (λ b. cond (b && is_some (choice room core cpu)) 1 0) offline);
-  }
+  pub counted_forced : is_none (first_on room cpu) ≡ false → is_none (choice room core cpu) ≡ true →
+      now ≡ record counts { forced = counts.forced + cond (is_online room cpu) 1 0 } → IsCounted room core cpu counts now
+  counted_forced some none is =
+      let both = go (is_online room cpu) (first_on room cpu) (choice room core cpu) some none in
+      record {
+        forced = ap (λ (n : Counts). n.forced) is ∙ ap (λ b. counts.forced + cond b 1 0) (sym both.0);
+        occupation = omega (arith, ap (λ (n : Counts). n.occupation) is, ap {B = ℕ} (λ b. cond b 1 0) both.1);
+      } where
+        go : (b : Bool) (first got : Option Task) → is_none first ≡ false → is_none got ≡ true → ((b && (is_none got && is_some first)) ≡ b) × ((b && is_some got) ≡ false)
+        go b None got some none = absurd cc
+        go b (Some task) (Some other) some none = absurd cc
+        go false (Some task) None some none = (refl, refl)
+        go true (Some task) None some none = (refl, refl)
 
-  pub counted_task : is_none (first_on room cpu) ≡ false → is_online room cpu ≡ true →
-      now ≡ cond (is_none (choice room core cpu)) (record counts { forced = counts.forced + 1 }) (record counts { occupation = counts.occupation + 1 }) →
-      IsCounted room core cpu counts now
-  counted_task some online is =
-      let both = go (is_online room cpu) (first_on room cpu) (choice room core cpu) some online is in record { forced = both.0; occupation = both.1 } where
-        go : (b : Bool) (first got : Option Task) → is_none first ≡ false → b ≡ true →
-            now ≡ cond (is_none got) (record counts { forced = counts.forced + 1 }) (record counts { occupation = counts.occupation + 1 }) →
-            (now.forced ≡ counts.forced + cond (b && (is_none got && is_some first)) 1 0) × (now.occupation ≡ counts.occupation + cond (b && is_some got) 1 0)
-        go false first got up on is = absurd cc
-        go true None got up on is = absurd cc
-        go true (Some task) None up on is = (ap (λ (n : Counts). n.forced) is, omega (arith, ap (λ (n : Counts). n.occupation) is))
-        go true (Some task) (Some other) up on is = (omega (arith, ap (λ (n : Counts). n.forced) is), ap (λ (n : Counts). n.occupation) is)
+  pub counted_task : is_none (choice room core cpu) ≡ false →
+      now ≡ record counts { occupation = counts.occupation + cond (is_online room cpu) 1 0 } → IsCounted room core cpu counts now
+  counted_task some is =
+      let both = go (is_online room cpu) (first_on room cpu) (choice room core cpu) some in
+      record {
+        forced = omega (arith, ap (λ (n : Counts). n.forced) is, ap {B = ℕ} (λ b. cond b 1 0) both.0);
+        occupation = ap (λ (n : Counts). n.occupation) is ∙ ap (λ b. counts.occupation + cond b 1 0) (sym both.1);
+      } where
+        go : (b : Bool) (first got : Option Task) → is_none got ≡ false → ((b && (is_none got && is_some first)) ≡ false) × ((b && is_some got) ≡ b)
+        go b first None some = absurd cc
+        go false first (Some task) some = (refl, refl)
+        go true first (Some task) some = (refl, refl)
 
 -- ---- all siblings
 

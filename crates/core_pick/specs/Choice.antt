@@ -86,11 +86,6 @@ pub record MayCount (counts : Counts) : Type 0 where
   pub forced : counts.forced < 255
   pub occupation : counts.occupation < 255
 
--- the counts with this choice of a sibling that has a task
-abbrev pub counts_with : Counts → Choice → Counts
-counts_with counts choice =
-    if choice.class == idle_class then record counts { forced = counts.forced + 1 } else record counts { occupation = counts.occupation + 1 }
-
 -- the counts once a sibling is counted
 pub record IsCounted (room : RoomState) (core cpu : ℕ) (before now : Counts) : Type 0 where
   pub forced : now.forced ≡ before.forced + (if gets_none room core cpu then 1 else 0)

@@ -1,12 +1,14 @@
 -- Questions: what a selection asks of the siblings, and what it keeps of their answers.
 use Rattle.std.specs.Prelude.{◌≡◌, ℕ, ◌+◌, ◌-◌, ◌<◌, ◌≤◌, ◌++◌, List, [], ◌∷◌, map, length}
 use Rattle.std.specs.List.{range_with_len}
-use Rattle.cs_types.specs.Selection.{first_on, cookie_of, lead_from, choice}
+use Rattle.cs_types.specs.Room.{RoomState, sibling_of}
+use Rattle.cs_types.specs.Selection.{first_on, cookie_of, lead_from}
 use Rattle.task_table.specs.Table.{Table}
 use Rattle.core_lanes.specs.declared.queue.SiblingQueue.{Ghosts}
 use Rattle.core_lanes.specs.declared.lanes.Core.{Core}
 use Rattle.core_lanes.specs.Queued.{queued_among}
-use Rattle.core_lanes.specs.Lanes.{Beside, room_of, AgreesAt, HasLowTimes}
+use Rattle.core_lanes.specs.declared.lane.Lane.{Lane}
+use Rattle.core_lanes.specs.Lanes.{Beside, lane_state, room_of, AgreesAt, HasLowTimes}
 use Rattle.core_pick.specs.declared.choice.Choice.{Choice}
 use Rattle.core_pick.specs.declared.choice.Counts.{Counts}
 use Rattle.core_pick.specs.declared.lead.First.{First}
@@ -20,9 +22,12 @@ pub record MayAsk {Q : Type 0} {g : Ghosts Q} (sibling : ℕ) (both : Core Q g �
   pub low : HasLowTimes both
 
 -- its queue is asked, answers this, and makes no more comparisons than one question takes
-pub record AsksOnce {Q : Type 0} {g : Ghosts Q} (cpu : ℕ) (both : Core Q g × Table) (Answer : Type 0) (before after : ℕ) : Type 0 where
+pub record AsksOf (most_compared : ℕ → ℕ) (cpu : ℕ) (table : Table) (Answer : Type 0) (before after : ℕ) : Type 0 where
   pub answer : Answer
-  pub counted : after ≤ before + g.most_compared (length (queued_among both.1.tasks cpu))
+  pub counted : after ≤ before + most_compared (length (queued_among table.tasks cpu))
+
+abbrev pub AsksOnce : {Q : Type 0} {g : Ghosts Q} → ℕ → Core Q g × Table → Type 0 → ℕ → ℕ → Type 0
+AsksOnce {g = g} cpu both Answer before after = AsksOf g.most_compared cpu both.1 Answer before after
 
 -- this is what is kept of its first task
 abbrev pub KeepsFirst : {Q : Type 0} {g : Ghosts Q} → ℕ → Core Q g × Table → First → Type 0
@@ -33,15 +38,11 @@ abbrev pub LeadsWith : {Q : Type 0} {g : Ghosts Q} → ℕ → Core Q g × Table
 LeadsWith cpu both before now = (beside : Beside) (order : List ℕ) → let room = room_of beside both in
     before ≡ lead_in room order → now ≡ lead_in room (order ++ cpu ∷ [])
 
--- where the one is its first task, the other is what it gets for a core cookie
-abbrev pub Gets : {Q : Type 0} {g : Ghosts Q} → ℕ → ℕ → Core Q g × Table → Choice → Choice → Type 0
-Gets cpu cookie both first given = (beside : Beside) → let room = room_of beside both in
-    first ≡ choice_of (first_on room cpu) → given ≡ choice_of (choice room cookie cpu)
-
--- and it is counted with that
-abbrev pub GetsCounted : {Q : Type 0} {g : Ghosts Q} → ℕ → ℕ → Core Q g × Table → Counts → Counts → Choice → Choice → Type 0
-GetsCounted cpu cookie both before now first given = (beside : Beside) → let room = room_of beside both in
-    first ≡ choice_of (first_on room cpu) → IsGivenAndCounted room cookie cpu before now given
+-- where the one is its first task, the other is what it gets for a core cookie, and it is counted with that
+abbrev pub GetsCounted : {Q : Type 0} → ℕ → ℕ → Lane Q → Table → Counts → Counts → Choice → Choice → Type 0
+GetsCounted cpu cookie lane table before now first given = (room : RoomState) →
+    room.tasks ≡ table.tasks → sibling_of room cpu ≡ lane_state lane → first ≡ choice_of (first_on room cpu) →
+    IsGivenAndCounted room cookie cpu before now given
 
 -- ---- of several
 

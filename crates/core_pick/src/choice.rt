@@ -1,12 +1,12 @@
 //! What each sibling gets in a selection for the core. It is a file of its own since the selection
 //! counts the choices before it changes siblings and tasks by them.
 
-ghost use Rattle.std.specs.Prelude.{◌≡◌, ℕ, ◌≤◌, ◌==◌, None, length, map};
+ghost use Rattle.std.specs.Prelude.{◌≡◌, ℕ, ◌+◌, ◌≤◌, ◌==◌, None, if◌then◌else◌, length, map};
 ghost use Rattle.cs_types.specs.Room.{RoomState};
 ghost use Rattle.cs_types.specs.Order.{fair_class, idle_class};
 ghost use Rattle.task_table.specs.Table.{IsSound as IsTable};
 ghost use Rattle.core_lanes.specs.Lanes.{lane_state};
-ghost use Rattle.core_pick.specs.Choice.{IsPlan, MayCount, counts_with, HandsOut, choice_of, kept_in_selection, run_of, task_after_choice};
+ghost use Rattle.core_pick.specs.Choice.{IsPlan, MayCount, HandsOut, choice_of, kept_in_selection, run_of, task_after_choice};
 
 use crate::sibling::hand;
 use arrayvec::ArrayVec;
@@ -85,21 +85,25 @@ pub struct Counts {
 }
 
 impl Counts {
-    /// The counts with this choice of a sibling that has a task.
-    pub fn with(self, choice: &Choice) -> Counts
+    /// The counts with a sibling that is forced idle, which counts where it is online.
+    pub fn with_forced(self, online: bool) -> Counts
         requires { MayCount self }
-        ensures { result ≡ counts_with self choice.now }
+        ensures { result ≡ record self { forced = self.forced + (if online then 1 else 0) } }
     {
-        if choice.is_idle() {
-            Counts {
-                forced: self.forced + 1,
-                ..self
-            }
-        } else {
-            Counts {
-                occupation: self.occupation + 1,
-                ..self
-            }
+        Counts {
+            forced: self.forced + u8::from(online),
+            ..self
+        }
+    }
+
+    /// The counts with a sibling for which a task is chosen, which counts where it is online.
+    pub fn with_task(self, online: bool) -> Counts
+        requires { MayCount self }
+        ensures { result ≡ record self { occupation = self.occupation + (if online then 1 else 0) } }
+    {
+        Counts {
+            occupation: self.occupation + u8::from(online),
+            ..self
         }
     }
 }

@@ -1,64 +1,48 @@
 //! What a selection for the core asks of the queues: the lead, and what each sibling gets for a core cookie.
 //! It is a file of its own since it changes nothing.
 
-ghost use Rattle.std.specs.Prelude.{◌≡◌, ◌+◌, ◌-◌, ◌*◌, ◌≤◌, ◌<◌, [], ◌||◌, ◌==◌, length};
+ghost use Rattle.std.specs.Prelude.{◌≡◌, ◌+◌, ◌-◌, ◌*◌, ◌≤◌, ◌<◌, ◌==◌, [], length, None, if◌then◌else◌};
 ghost use Rattle.arrayvec.specs.ArrayVec.{array_vec_len};
-ghost use Rattle.cs_types.specs.Order.{idle_class};
 ghost use Rattle.task_table.specs.Table.{Table};
 ghost use Rattle.core_lanes.specs.Lanes.{Beside, room_of, Agree, AgreesAt};
+ghost use Rattle.cs_types.specs.Order.{first_of};
+ghost use Rattle.core_lanes.specs.Queued.{queued_among, with_cookie, MaySearch};
 ghost use Rattle.core_pick.specs.Choice.{firsts_of, MayCount};
 ghost use Rattle.core_pick.specs.Comparisons.{Compares};
-ghost use Rattle.core_pick.specs.Questions.{MayAsk, AsksOnce, KeepsFirst, LeadsWith, Gets, GetsCounted, MayAskPart, AsksPart, AsksAll, GetAll};
+ghost use Rattle.core_pick.specs.Questions.{MayAsk, AsksOnce, AsksOf, KeepsFirst, LeadsWith, GetsCounted, MayAskPart, AsksPart, AsksAll, GetAll};
 
 use crate::choice::{Choice, Choices, Counts};
 use crate::lead::{First, first_kept};
-use core_lanes::{Core, SiblingQueue, queued_of};
-use cs_types::{Cookie, Cpu, Steps};
+use core_lanes::{Core, Lane, SiblingQueue, queued_of};
+use cs_types::{Cookie, Cpu, Steps, Task};
 use std::sync::ledger::Ledger;
 use task_table::TaskTable;
 
 // ---- what each gets
 
-/// Whether a sibling with this first task gets it for a core cookie: it is idle, or has the cookie.
-fn is_kept(first: &Choice, cookie: Cookie) -> bool
-    ensures { result ≡ ((first.now.class == idle_class) || (first.now.cookie == cookie)) }
-{
-    first.is_idle() || first.cookie == cookie
-}
-
-/// Puts what a sibling gets for a core cookie in the place of its first task. Where it does not get that, it is searched
-/// for its first task with the cookie (`sched_core_find`). None is there for cookie 0.
+/// The first task of a sibling with the core cookie (`sched_core_find`). None is there for cookie 0.
 #[inline(always)]
-fn choose_at<Q: SiblingQueue, L: Ledger>(
-    core: &Core<Q>,
+fn search_on<Q: SiblingQueue, L: Ledger>(
+    lane: &Lane<Q>,
     table: &TaskTable,
-    given: &mut Choice,
     cookie: Cookie,
     cpu: Cpu,
     steps: &mut Steps<L>,
-)
-    requires { AgreesAt cpu (core.now, table.now) }
-    ensures { AsksOnce cpu (core.now, table.now) (Gets cpu cookie (core.now, table.now) given.old given.new) steps.old steps.new }
+) -> Option<Task>
+    requires { MaySearch (Q.holds lane.now.queue) cpu table.now }
+    ensures { AsksOf Q.most_compared cpu table.now (result ≡ (if cookie == 0 then None else first_of (with_cookie cookie (queued_among table.now.tasks cpu)))) steps.old steps.new }
 {
-    if is_kept(given, cookie) {
-        return;
-    }
     if cookie == 0 {
-        *given = Choice::idle();
-        return;
+        return None;
     }
-    let queue = &core.lanes[cpu as usize].queue;
-    *given = match queue.first_with(cookie, table, cpu, steps) {
-        Some(task) => Choice::of(&queued_of(&task)),
-        None => Choice::idle(),
-    };
+    lane.queue.first_with(cookie, table, cpu, steps)
 }
 
-/// Puts what the sibling gets for a core cookie in the place of its first, and gives the counts with it. One whose
-/// first is idle gets that, and is not counted, and nor is one that is offline.
+/// Puts what a sibling gets for a core cookie in the place of its first, and gives the counts with it: that first, where
+/// it has the cookie, and else what a search finds. One whose first is idle gets that, and is not counted.
 #[inline(always)]
 fn settle<Q: SiblingQueue, L: Ledger>(
-    core: &Core<Q>,
+    lane: &Lane<Q>,
     table: &TaskTable,
     given: &mut Choice,
     counts: Counts,
@@ -66,18 +50,25 @@ fn settle<Q: SiblingQueue, L: Ledger>(
     cpu: Cpu,
     steps: &mut Steps<L>,
 ) -> Counts
-    requires at { AgreesAt cpu (core.now, table.now) }
+    requires search { MaySearch (Q.holds lane.now.queue) cpu table.now }
     requires may { MayCount counts }
-    ensures { AsksOnce cpu (core.now, table.now) (GetsCounted cpu cookie (core.now, table.now) counts result given.old given.new) steps.old steps.new }
+    ensures { AsksOf Q.most_compared cpu table.now (GetsCounted cpu cookie lane.now table.now counts result given.old given.new) steps.old steps.new }
 {
     if given.is_idle() {
         return counts;
     }
-    choose_at(core, table, given, cookie, cpu, steps);
-    if core.is_online(cpu) {
-        counts.with(given)
-    } else {
-        counts
+    if given.cookie == cookie {
+        return counts.with_task(lane.online);
+    }
+    match search_on(lane, table, cookie, cpu, steps) {
+        Some(task) => {
+            *given = Choice::of(&queued_of(&task));
+            counts.with_task(lane.online)
+        }
+        None => {
+            *given = Choice::idle();
+            counts.with_forced(lane.online)
+        }
     }
 }
 
@@ -94,12 +85,13 @@ pub fn choose<Q: SiblingQueue, L: Ledger>(
     ensures gets { GetAll cookie (core.now, table.now) choices.new result }
     ensures counted { Compares (core.now, table.now) (λ most. steps.new ≤ steps.old + length core.now.lanes.items * most) }
 {
+    let lanes = core.lanes.as_slice();
     let mut counts = Counts {
         forced: 0,
         occupation: 0,
     };
     for (cpu, choice) in choices.iter_mut().enumerate() {
-        counts = settle(core, table, choice, counts, cookie, cpu as u8, steps);
+        counts = settle(&lanes[cpu], table, choice, counts, cookie, cpu as u8, steps);
     }
     counts
 }

@@ -1,13 +1,14 @@
-use Rattle.std.proofs.Common.{◌≡◌, ◌∙◌, ℕ, ◌+◌, ◌*◌, ◌<◌, ◌≤◌, ◌++◌, List, ap, sym, subst, cond, map, take, drop, length, get_or, arith}
+use Rattle.std.proofs.Common.{◌≡◌, ◌∙◌, ℕ, ◌+◌, ◌*◌, ◌<◌, ◌≤◌, ◌++◌, List, refl, ap, sym, subst, cond, map, take, drop, length, get_or, arith}
 use Rattle.std.specs.Prelude.{count_by}
 use Rattle.std.specs.List.{range_with_len, enumerate_from}
 use Rattle.std.proofs.Math.Seq.{take-length, drop-length}
 use Rattle.std.proofs.lemmas.List.{append-nil, length-map}
 use Rattle.std.proofs.lemmas.List.FromFn.{length-map-range_with_len}
 use Rattle.cs_types.specs.Selection.{first_on, choice}
+use Rattle.core_lanes.specs.declared.lane.Lane.{Lane}
 use Rattle.core_lanes.specs.Lanes.{Beside, lane_state, room_of}
 use Rattle.core_lanes.proofs.Lists.{placed_at, placed_more}
-use Rattle.core_lanes.proofs.Stays.{some_beside}
+use Rattle.core_lanes.proofs.Stays.{some_beside, lane_at, queue_at, policies_of}
 use Rattle.core_pick.specs.declared.choice.Choice.{Choice}
 use Rattle.core_pick.specs.Choice.{choice_of, gets_none, gets_task}
 use Rattle.core_pick.proofs.Asked.{one_more}
@@ -30,9 +31,22 @@ module _ (g : Over) (c : Start g) where
 pub overflow_cast-cpu : goal.overflow_cast-cpu
 overflow_cast-cpu g c = omega (arith, c.loop-cpu-test.true, many g (goal.at.overflow_cast-cpu g c).Start, c.args.core.now.few)
 
-pub settle-counts-requires-clause-at : goal.settle-counts-requires-clause-at
-settle-counts-requires-clause-at g c =
-    record { cpu = omega (arith, c.loop-cpu-test.true, many g (goal.at.settle-counts-requires-clause-at g c).Start); agree = c.requires.agree }
+pub offset_bounds-lanes-cpu : goal.offset_bounds-lanes-cpu
+offset_bounds-lanes-cpu g c = omega (arith, ap length c.as_slice-lanes.ensures.value, c.loop-cpu-test.true, many g (goal.at.offset_bounds-lanes-cpu g c).Start)
+
+pub bounds-lanes-cpu : goal.bounds-lanes-cpu
+bounds-lanes-cpu g c = omega (arith, ap length c.as_slice-lanes.ensures.value, c.loop-cpu-test.true, many g (goal.at.bounds-lanes-cpu g c).Start)
+
+pub settle-counts-requires-clause-search : goal.settle-counts-requires-clause-search
+settle-counts-requires-clause-search g c =
+    let lanes = c.args.core.now.lanes.items in
+    let cpu = c.loop-cpu.cpu in
+    let lane = c.index-lanes-cpu.result in
+    let below : cpu < length lanes = omega (arith, c.loop-cpu-test.true, many g (goal.at.settle-counts-requires-clause-search g c).Start) in
+    record {
+      policies = policies_of (c.args.core.now, c.args.table.now) c.requires.agree;
+      holds = c.requires.agree.held cpu lane.queue (queue_at lanes cpu lane below (c.index-lanes-cpu.is ∙ ap (λ (lanes : List (Lane g.row.Q.Denot)). get_or lanes cpu lane) c.as_slice-lanes.ensures.value));
+    }
 
 pub settle-counts-requires-clause-may : goal.settle-counts-requires-clause-may
 settle-counts-requires-clause-may g c =
@@ -48,6 +62,9 @@ loop-cpu-preserved g c =
     let cpu = c.loop-cpu.cpu in
     let core = c.args.cookie in
     let below : cpu < length c.args.core.now.lanes.items = omega (arith, c.loop-cpu-test.true, many g (goal.at.loop-cpu-preserved g c).Start) in
+    let lanes = c.args.core.now.lanes.items in
+    let lane = c.index-lanes-cpu.result in
+    let at = lane_at lanes cpu lane below (c.index-lanes-cpu.is ∙ ap (λ (lanes : List (Lane g.row.Q.Denot)). get_or lanes cpu lane) c.as_slice-lanes.ensures.value) in
     let was = λ (beside : Beside).
     let room = room_of beside (c.args.core.now, c.args.table.now) in
     let inside : cpu < length room.siblings = omega (arith, below, length-map c.args.core.now.lanes.items lane_state) in
@@ -61,13 +78,13 @@ loop-cpu-preserved g c =
           let room = room_of beside (c.args.core.now, c.args.table.now) in
           let gets : ℕ × Choice → Choice = λ numbered. choice_of (choice room core numbered.0) in
           placed_more gets c.args.choices.now c.loop-cpu.choices cpu c.settle-counts.new.given no_choice c.loop-cpu-test.true (c.loop-cpu.invariant.made beside)
-          (c.settle-counts.ensures.answer beside (was beside)).gets;
+          (c.settle-counts.ensures.answer (room_of beside (c.args.core.now, c.args.table.now)) refl at (was beside)).gets;
       forced = λ beside.
           let p = gets_none (room_of beside (c.args.core.now, c.args.table.now)) core in
-          (c.settle-counts.ensures.answer beside (was beside)).counts.forced ∙ ap (λ n. n + cond (p cpu) 1 0) (c.loop-cpu.invariant.forced beside) ∙ sym (count_more p cpu);
+          (c.settle-counts.ensures.answer (room_of beside (c.args.core.now, c.args.table.now)) refl at (was beside)).counts.forced ∙ ap (λ n. n + cond (p cpu) 1 0) (c.loop-cpu.invariant.forced beside) ∙ sym (count_more p cpu);
       occupation = λ beside.
           let p = gets_task (room_of beside (c.args.core.now, c.args.table.now)) core in
-          (c.settle-counts.ensures.answer beside (was beside)).counts.occupation ∙ ap (λ n. n + cond (p cpu) 1 0) (c.loop-cpu.invariant.occupation beside) ∙ sym (count_more p cpu);
+          (c.settle-counts.ensures.answer (room_of beside (c.args.core.now, c.args.table.now)) refl at (was beside)).counts.occupation ∙ ap (λ n. n + cond (p cpu) 1 0) (c.loop-cpu.invariant.occupation beside) ∙ sym (count_more p cpu);
       asked = λ longest longer.
           let rises = g.met.Q.SiblingQueue.rises _ _ (longer cpu below) in
           one_more _ _ _ cpu _ (c.loop-cpu.invariant.asked longest longer) (omega (arith, c.settle-counts.ensures.counted, rises));
