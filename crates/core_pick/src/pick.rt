@@ -212,13 +212,11 @@ fn adopt_or_pick_anew<Q: SiblingQueue, L: Ledger>(
         (λ room. adopt_or_pick_anew room (may_adopt_by cpu (numbers_of (core.old, table.old))) cpu (sibling_of room cpu).waiting) }
     ensures counted { ComparesForSchedule (core.old, table.old) steps.old steps.new }
 {
-    match adoptable(core, cpu) {
-        Some(waiting) => adopt(core, cpu, waiting),
-        None => {
-            charge(core, table, now);
-            pick_anew(core, table, cpu, now, steps)
-        }
+    if let Some(waiting) = adoptable(core, cpu) {
+        return adopt(core, cpu, waiting);
     }
+    charge(core, table, now);
+    pick_anew(core, table, cpu, now, steps)
 }
 
 /// The sibling schedules at `now`, in ns from the start (`pick_next_task`). `None` exactly where it is

@@ -43,8 +43,8 @@ returns-in-Some-clause-schedules g c =
       stays = adopts.stays;
     })
 
-pub returns-in-None-clause-schedules : goal.returns-in-None-clause-schedules
-returns-in-None-clause-schedules g c =
+pub returns-clause-schedules : goal.returns-clause-schedules
+returns-clause-schedules g c =
     let now = c.args.now in
     let cpu = c.args.cpu in
     let may_adopt = may_adopt_by c.args.cpu (numbers_of (c.args.core.now, c.args.table.now)) in
@@ -55,7 +55,7 @@ returns-in-None-clause-schedules g c =
     λ beside. picked.room (paid beside) ∙ ap (λ (r : RoomState). (pick_anew r cpu).room) (c.charge.ensures.charges.room beside) in
     ChargesAndSchedules-same now (c.args.core.now, c.args.table.now) (c.pick_anew.new.core, c.pick_anew.new.table) cpu c.pick_anew.result
     (λ room. pick_anew (charge room) cpu) (λ room. adopt_or_pick_anew room may_adopt cpu (sibling_of room cpu).waiting)
-    (λ beside. is_not_adopted (room_of (at now beside) (c.args.core.now, c.args.table.now)) may_adopt cpu (c.in-None.ensures (at now beside) c.args.table.now))
+    (λ beside. is_not_adopted (room_of (at now beside) (c.args.core.now, c.args.table.now)) may_adopt cpu (c.in_default.ensures (at now beside) c.args.table.now))
     (record {
       pick = λ beside. picked.pick (paid beside) ∙ ap (λ (r : RoomState). (pick_anew r cpu).pick) (c.charge.ensures.charges.room beside);
       room = λ beside. stands {Q = g.row.Q.Denot} {g = g.Q.SiblingQueue} (paid beside) (c.pick_anew.new.core, c.pick_anew.new.table) _ (room beside);
@@ -65,8 +65,8 @@ returns-in-None-clause-schedules g c =
       stays = both_stay c.charge.ensures.charges.stays picked.stays;
     })
 
-pub returns-in-None-clause-counted : goal.returns-in-None-clause-counted
-returns-in-None-clause-counted g c longest longer =
+pub returns-clause-counted : goal.returns-clause-counted
+returns-clause-counted g c longest longer =
     let many = ap (λ (kept : Kept). kept.siblings) c.charge.ensures.charges.stays.kept in
     let tasks = ap (λ (table : Table). table.tasks) c.charge.ensures.table in
     subst (λ n. c.pick_anew.new.steps ≤ c.args.steps.now + most_of_schedule n (g.Q.SiblingQueue.most_compared longest)) many
