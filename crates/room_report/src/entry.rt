@@ -20,7 +20,6 @@ pub fn entry_text<K: Sink>(entry: &Entry, line: &mut Line, sink: &mut K) -> Resu
     ensures failed { OnErr result (Rose (K.faults sink.old) (K.faults sink.new)) }
     ensures counted { K.faults sink.old ≤ K.faults sink.new }
 {
-    line.clear();
     line.entry(entry);
     write_all(sink, line.as_bytes())
 }

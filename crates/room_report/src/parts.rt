@@ -33,8 +33,10 @@ pub(crate) fn write_entries<R: Room, K: Sink>(room: &R, sink: &mut K) -> Result<
 {
     let mut line = Line::new();
     for index in 0..room.length() {
-        let entry = room.entry(index).unwrap();
-        entry_text(&entry, &mut line, sink)?;
+        // Each is there. To unwrap it would copy it a second time.
+        if let Some(entry) = &room.entry(index) {
+            entry_text(entry, &mut line, sink)?;
+        }
     }
     Ok(())
 }

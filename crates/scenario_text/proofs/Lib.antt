@@ -25,3 +25,4 @@ pub mod Scenarios
 pub mod Replies
 pub mod Entries
 pub mod Joined
+pub mod Placed
