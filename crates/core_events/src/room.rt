@@ -140,12 +140,15 @@ impl<Q: SiblingQueue, G: Guard> Room for CoreRoom<Q, G> {
 
     #[inline(always)]
     fn apply(&mut self, actor: Actor, event: Event) -> Reply {
-        let reply = counted::<Q, G, Brand>(&mut self.state, event, Blank::new(1));
+        // The entry is noted before its step is made, so that its event need not be kept meanwhile.
+        let place = self.entries.len();
         self.entries.push_reserved(Entry {
             actor,
             event,
-            reply,
+            reply: Reply::Nothing,
         });
+        let reply = counted::<Q, G, Brand>(&mut self.state, event, Blank::new(1));
+        self.entries[place].reply = reply;
         reply
     }
 

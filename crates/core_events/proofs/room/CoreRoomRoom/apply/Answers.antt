@@ -1,14 +1,17 @@
-use Rattle.std.proofs.Common.{ℕ, ◌≤◌, ◌*◌, ◌++◌, ◌∷◌, [], length, ap, sym, subst, ◌∙◌, arith}
+use Rattle.std.proofs.Common.{◌≡◌, ℕ, ◌≤◌, ◌*◌, ◌++◌, ◌∷◌, [], length, get_or, set, ap, sym, subst, ◌∙◌, arith}
 use Rattle.std.specs.Prelude.{IfSome, All, ◌+◌, ◌<◌, ◌^◌}
+use Rattle.std.proofs.Math.Seq.{get_or-append_seam, set-append_seam}
 use Rattle.std.proofs.lemmas.List.{length-map}
 use Rattle.std.proofs.lemmas.List.Elements.{All-push, All-weaker}
 use Rattle.core_events.specs.Inside.{opening_of}
 use Rattle.cs_types.specs.Guards.{GuardState}
 use Rattle.cs_types.specs.declared.reply.Entry.{Entry}
+use Rattle.cs_types.specs.declared.reply.Reply.{Reply}
+use Rattle.cs_types.specs.declared.reply.Reply.TheVariants.{Nothing}
 use Rattle.cs_types.specs.Scenario.{IsEvent}
 use Rattle.cs_types.specs.Room.{RoomState, SiblingState}
 use Rattle.cs_types.specs.Touches.{selection_of}
-use Rattle.cs_types.specs.History.{fold_of, reply_to, history_of, IsLegal}
+use Rattle.cs_types.specs.History.{History, fold_of, reply_to, history_of, IsLegal}
 use Rattle.cs_types.specs.Laws.{SelectsForTheCore, scheduling_room, cpu_of, LeavesTheRoom}
 use Rattle.cs_types.proofs.Numbers.{asked-fold_of, task_number-ledger_of, next_stamp-fold_of, next_cookie-fold_of, next_pid-fold_of, ended-fold_of}
 use Rattle.cs_types.proofs.Tasks.{few-fold_of}
@@ -91,6 +94,13 @@ counted-reply-requires-clause-may g c =
       };
     }
 
+-- the entries once the last of them has its reply
+noted : (past items : History) (place : ℕ) (first here : Entry) (reply : Reply) → items ≡ past ++ first ∷ [] → place ≡ length past → here ≡ get_or items place here →
+    set items place (record here { reply = reply }) ≡ past ++ record first { reply = reply } ∷ []
+noted past items place first here reply pushed last is =
+    let same : here ≡ first = is ∙ (λ i. get_or (pushed i) (last i) here) ∙ get_or-append_seam past first [] here in
+    (λ i. set (pushed i) (last i) (record (same i) { reply = reply })) ∙ set-append_seam past first [] (record first { reply = reply })
+
 pub invariant_of-self : goal.invariant_of-self
 invariant_of-self g c =
     let a = c.self.inside in
@@ -99,12 +109,14 @@ invariant_of-self g c =
     let limits = subst (λ (m : Machine). IsEvent m.opening.scenario.siblings c.args.event) (sym c.self.view_is) c.requires.event in
     let reply = reply_more (opening_of a) a.state c.counted-reply.new.state a.entries.items c.args.event c.counted-reply.result so_far (c.counted-reply.ensures.step (fold_of (opening_of a) a.entries.items).intervals) in
     let folds = folds_more (opening_of a) a.state c.counted-reply.new.state a.entries.items entry limits so_far (c.counted-reply.ensures.step (fold_of (opening_of a) a.entries.items).intervals) in
+    let items = noted a.entries.items c.push_reserved.new.self.items c.len-place.result (record { actor = c.args.actor; event = c.args.event; reply = Nothing }) c.index_mut.result.now c.counted-reply.result
+    c.push_reserved.ensures.items (omega (arith, c.len-place.ensures, a.entries.ok.0)) c.index_mut.ensures.value in
     record {
       playable = c.self.invariant.playable;
-      events = rw c.push_reserved.ensures.items (All-push (λ (e : Entry). IsEvent a.scenario.value.siblings e.event) a.entries.items entry c.self.invariant.events limits);
-      history = rw c.push_reserved.ensures.items (history_more (opening_of a) a.entries.items entry c.self.invariant.history reply);
-      fold = rw c.push_reserved.ensures.items folds.fold;
-      numbers = rw c.push_reserved.ensures.items folds.numbers;
+      events = rw items (All-push (λ (e : Entry). IsEvent a.scenario.value.siblings e.event) a.entries.items entry c.self.invariant.events limits);
+      history = rw items (history_more (opening_of a) a.entries.items entry c.self.invariant.history reply);
+      fold = rw items folds.fold;
+      numbers = rw items folds.numbers;
       sound = c.counted-reply.ensures.stays.sound c.self.invariant.sound;
       count = c.self.invariant.count;
       siblings = c.counted-reply.ensures.stays.siblings ∙ c.self.invariant.siblings;
@@ -133,7 +145,9 @@ returns-clause-entry g c =
     let entry : Entry = record { actor = c.args.actor; event = c.args.event; reply = c.counted-reply.result } in
     let so_far = folds_of a c.self.invariant in
     let reply = reply_more (opening_of a) a.state c.counted-reply.new.state a.entries.items c.args.event c.counted-reply.result so_far (c.counted-reply.ensures.step (fold_of (opening_of a) a.entries.items).intervals) in
-    rw c.push_reserved.ensures.items
+    let items = noted a.entries.items c.push_reserved.new.self.items c.len-place.result (record { actor = c.args.actor; event = c.args.event; reply = Nothing }) c.index_mut.result.now c.counted-reply.result
+    c.push_reserved.ensures.items (omega (arith, c.len-place.ensures, a.entries.ok.0)) c.index_mut.ensures.value in
+    rw items
     (sym (history_more (opening_of a) a.entries.items entry c.self.invariant.history reply)
     ∙ ap (λ h. h ++ entry ∷ []) (c.self.invariant.history ∙ ap (λ (m : Machine). history_of m.opening m.steps) c.self.view_is))
 
