@@ -1,18 +1,19 @@
 //! What each event does to the state.
 
-ghost use Rattle.std.specs.Prelude.{◌≡◌, ◌<◌, length};
+ghost use Rattle.std.specs.Prelude.{◌≡◌, ◌+◌, ◌<◌, length};
 ghost use Rattle.cs_types.specs.declared.reply.Pick.{Pick};
 ghost use Rattle.cs_types.specs.Step.{child_at_home, requeue, with_policy};
 ghost use Rattle.task_table.specs.Table.{Table};
 ghost use Rattle.core_lanes.specs.Lanes.{Beside, room_of};
 ghost use Rattle.core_clock.specs.Moments.{MayQueue, TouchesAt};
-ghost use Rattle.cookie_steal.specs.Tries.{reply_of as steal_reply};
+ghost use Rattle.cookie_steal.specs.Tries.{MayTry, reply_of as steal_reply};
 ghost use Rattle.cpu_hotplug.specs.Hotplugs.{reply_of as hotplug_reply};
 ghost use Rattle.core_pick.specs.Comparisons.{ComparesForSchedule};
 ghost use Rattle.core_tasks.specs.Steps.{Makes};
 ghost use Rattle.core_lanes.specs.Comparisons.{ComparesFor};
 ghost use Rattle.core_events.specs.Ready.{IsReady, IsReadyAt, IsReadyFor};
 ghost use Rattle.core_events.specs.Comparisons.{ComparesForEvent};
+ghost use Rattle.core_events.specs.Tried.{AnswersTry};
 
 use cookie_steal::{Try, try_steal};
 use core_clock::{online_home, queue_at_home, rehome};
@@ -96,6 +97,7 @@ fn requeue<Q: SiblingQueue, L: Ledger>(
 }
 
 /// The sibling schedules.
+#[inline(never)]
 fn resched<Q: SiblingQueue, G: Guard, L: Ledger>(
     state: &mut State<Q, G>,
     cpu: Cpu,
@@ -112,7 +114,23 @@ fn resched<Q: SiblingQueue, G: Guard, L: Ledger>(
     }
 }
 
+/// The sibling tries to steal. It is never a part of the turn, which mostly finds nothing to do and is to stay small.
+#[inline(never)]
+fn steal<Q: SiblingQueue, L: Ledger>(
+    core: &mut Core<Q>,
+    table: &mut TaskTable,
+    cpu: Cpu,
+    steps: &mut Steps<L>,
+) -> Reply
+    requires { MayTry cpu (core.old, table.old) }
+    ensures tries { AnswersTry (core.old, table.old) (core.new, table.new) cpu result }
+    ensures counted { ComparesFor (length table.old.tasks + 4) (core.old, table.old) steps.old steps.new }
+{
+    steal_reply(try_steal(core, table, cpu, steps))
+}
+
 /// A pending reschedule is taken. Else the sibling tries to steal, where it is to.
+#[inline(always)]
 fn turn<Q: SiblingQueue, G: Guard, L: Ledger>(
     state: &mut State<Q, G>,
     cpu: Cpu,
@@ -126,10 +144,14 @@ fn turn<Q: SiblingQueue, G: Guard, L: Ledger>(
     if !state.core.is_online(cpu) {
         return Reply::Offline;
     }
-    if state.core.lanes[cpu as usize].pending {
+    let lane = &state.core.lanes[cpu as usize];
+    if lane.pending {
         return resched(state, cpu, steps);
     }
-    steal_reply(try_steal(&mut state.core, &mut state.tasks, cpu, steps))
+    if lane.place == 0 {
+        return Reply::Nothing;
+    }
+    steal(&mut state.core, &mut state.tasks, cpu, steps)
 }
 
 /// The running task goes to sleep, and its sibling takes the next. The open interval is charged while the

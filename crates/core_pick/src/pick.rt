@@ -222,7 +222,7 @@ fn adopt_or_pick_anew<Q: SiblingQueue, L: Ledger>(
 /// The sibling schedules at `now`, in ns from the start (`pick_next_task`). `None` exactly where it is
 /// offline, and then nothing changes. Each sibling is asked at most twice: for its first, and for its first with
 /// the core cookie.
-#[inline(never)]
+#[inline(always)]
 pub fn schedule<Q: SiblingQueue, L: Ledger>(
     core: &mut Core<Q>,
     table: &mut TaskTable,

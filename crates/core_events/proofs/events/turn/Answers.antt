@@ -1,4 +1,5 @@
 use Rattle.std.proofs.Common.{◌≡◌, ◌∙◌, ap, sym, subst, Bool, cond, true, false, eqb, ℕ, arith, ◌*◌, ◌+◌, length}
+use Rattle.std.proofs.lemmas.Bool.{cond-true, eq-eqb}
 use Rattle.cs_types.specs.declared.event.Event.TheVariants.{Turn, Resched}
 use Rattle.cs_types.specs.declared.reply.Reply.TheVariants.{Picked, Nothing, Offline}
 use Rattle.cs_types.specs.Room.{RoomState, SiblingState, sibling_of}
@@ -16,8 +17,8 @@ use Rattle.std.proofs.Math.Nat.{mul-le-mul_right, le-max_left, le-max_right}
 use Rattle.core_events.proofs.Compared.{for_event}
 use Rattle.core_events.proofs.events.turn.Goals as goal
 
-pub try_steal-requires : goal.try_steal-requires
-try_steal-requires g c = record {
+pub steal-requires : goal.steal-requires
+steal-requires g c = record {
   at = record { cpu = c.requires.cpu; agree = c.requires.ready.sound.agree };
   low = low_times c.args.state.now c.requires.ready.time;
   places = c.requires.ready.spares.places;
@@ -37,8 +38,8 @@ returns-then-not-is_online-clause-makes g c = leaves_all c.args.state.now (Turn 
     when_offline room c.args.cpu (turn room (is_fresh_by (state_numbers c.args.state.now)) c.args.cpu)
     (sym (c.is_online.ensures (beside_of intervals c.args.state.now) c.args.state.now.tasks) ∙ c.if-not-is_online.true))
 
-pub returns-then-index-clause-makes : goal.returns-then-index-clause-makes
-returns-then-index-clause-makes g c =
+pub returns-then-lane-clause-makes : goal.returns-then-lane-clause-makes
+returns-then-lane-clause-makes g c =
     let old = c.args.state.now in
     let cpu = c.args.cpu in
     let fresh = is_fresh_by (state_numbers old) in
@@ -46,8 +47,8 @@ returns-then-index-clause-makes g c =
     record {
       step = λ intervals.
           let room = room_with intervals old in
-          let at = lane_at old.core.lanes.items cpu c.index.result.now c.requires.cpu c.index.ensures in
-          let pends : (sibling_of room cpu).pending ≡ true = ap (λ (s : SiblingState). s.pending) at ∙ c.if-index.true in
+          let at = lane_at old.core.lanes.items cpu c.index-lane.result.now c.requires.cpu c.index-lane.ensures in
+          let pends : (sibling_of room cpu).pending ≡ true = ap (λ (s : SiblingState). s.pending) at ∙ c.if-lane.true in
           let is : picked Picked (schedule room fresh cpu) ≡ turn room fresh cpu = ap (turn_by room fresh cpu) (sym pends) in
           let same : step room fresh (Resched cpu) ≡ step room fresh (Turn cpu) = ap (unless_offline room cpu) is in
           let here = made.step intervals in
@@ -63,31 +64,45 @@ returns-then-index-clause-makes g c =
       stays = made.stays;
     }
 
+pub returns-then-lane-eq0-clause-makes : goal.returns-then-lane-eq0-clause-makes
+returns-then-lane-eq0-clause-makes g c =
+    let old = c.args.state.now in
+    let cpu = c.args.cpu in
+    let fresh = is_fresh_by (state_numbers old) in
+    let at = lane_at old.core.lanes.items cpu c.index-lane.result.now c.requires.cpu c.index-lane.ensures in
+    leaves_all old (Turn cpu) Nothing (λ intervals. untouched (state_numbers old)) (λ intervals.
+    let room = room_with intervals old in
+    let idle : (sibling_of room cpu).pending ≡ false = ap (λ (s : SiblingState). s.pending) at ∙ c.if-lane.false in
+    let none : eqb (sibling_of room cpu).place 0 ≡ true = eq-eqb _ _ (ap (λ (s : SiblingState). s.place) at ∙ c.if-lane-eq0.true) in
+    sym (cond-true (eqb (sibling_of room cpu).place 0) (record { reply = Nothing; room = room }) (try_steal room cpu (stolen room cpu)) none)
+    ∙ ap (turn_by room fresh cpu) (sym idle)
+    ∙ when_online room cpu (turn room fresh cpu) (sym (c.is_online.ensures (beside_of intervals old) old.tasks) ∙ c.if-not-is_online.false))
+
 pub returns-clause-makes : goal.returns-clause-makes
 returns-clause-makes g c =
     let old = c.args.state.now in
     let cpu = c.args.cpu in
     let fresh = is_fresh_by (state_numbers old) in
-    let tried = c.try_steal.ensures.tries in
+    let tried = c.steal.ensures.tries.tries in
     record {
       step = λ intervals.
           let room = room_with intervals old in
           let beside = beside_of intervals old in
-          let at = lane_at old.core.lanes.items cpu c.index.result.now c.requires.cpu c.index.ensures in
-          let idle : (sibling_of room cpu).pending ≡ false = ap (λ (s : SiblingState). s.pending) at ∙ c.if-index.false in
+          let at = lane_at old.core.lanes.items cpu c.index-lane.result.now c.requires.cpu c.index-lane.ensures in
+          let idle : (sibling_of room cpu).pending ≡ false = ap (λ (s : SiblingState). s.pending) at ∙ c.if-lane.false in
           let made = ap (turn_by room fresh cpu) (sym idle)
           ∙ when_online room cpu (turn room fresh cpu) (sym (c.is_online.ensures beside old.tasks) ∙ c.if-not-is_online.false) in
           uncharged (record {
-            reply = c.steal_reply.ensures ∙ tried.reply beside ∙ ap (λ (m : Stepped). m.reply) made;
+            reply = c.steal.ensures.tries.answer ∙ tried.reply beside ∙ ap (λ (m : Stepped). m.reply) made;
             room = tried.room beside ∙ ap (λ (m : Stepped). m.room) made;
-            numbers = ap (with_ended old.ended.items) tried.numbers ∙ turn_touches room cpu (state_numbers old) c.try_steal.result
-                ∙ ap (λ r. numbers_after room (Turn cpu) r (state_numbers old)) (sym c.steal_reply.ensures);
+            numbers = ap (with_ended old.ended.items) tried.numbers ∙ turn_touches room cpu (state_numbers old) c.steal.ensures.tries.made
+                ∙ ap (λ r. numbers_after room (Turn cpu) r (state_numbers old)) (sym c.steal.ensures.tries.answer);
           });
-      stays = lifted old (c.try_steal.new.core, c.try_steal.new.table) tried.stays;
+      stays = lifted old (c.steal.new.core, c.steal.new.table) tried.stays;
     }
 
-pub returns-then-index-clause-counted : goal.returns-then-index-clause-counted
-returns-then-index-clause-counted g c =
+pub returns-then-lane-clause-counted : goal.returns-then-lane-clause-counted
+returns-then-lane-clause-counted g c =
     let old = c.args.state.now in
     let siblings = length old.core.lanes.items in
     let tasks = length old.tasks.tasks in
@@ -97,4 +112,4 @@ pub returns-clause-counted : goal.returns-clause-counted
 returns-clause-counted g c =
     let old = c.args.state.now in
     let tasks = length old.tasks.tasks in
-    for_event g.met.Q.SiblingQueue.rises (tasks + 4) old (Turn c.args.cpu) _ _ (le-max_right (2 * length old.core.lanes.items) (tasks + 4)) c.try_steal.ensures.counted
+    for_event g.met.Q.SiblingQueue.rises (tasks + 4) old (Turn c.args.cpu) _ _ (le-max_right (2 * length old.core.lanes.items) (tasks + 4)) c.steal.ensures.counted
