@@ -6,8 +6,8 @@ use Rattle.std.proofs.Math.Nat.{suc-mul, add-mul}
 pub one_more : (start before after asked most : ℕ) → before ≤ start + asked * most → after ≤ before + most → after ≤ start + (asked + 1) * most
 one_more start before after asked most so_far once = omega (arith, so_far, once, suc-mul asked most)
 
--- those before the own one are asked, and those behind it, and it is spared
-pub all_but_own : (own siblings start mid end most : ℕ) → own < siblings → mid ≤ start + own * most → end ≤ mid + (siblings - (own + 1)) * most →
+-- those behind the own one are asked, and those before it, and it is spared
+pub all_but_own : (own siblings start mid end most : ℕ) → own < siblings → mid ≤ start + (siblings - (own + 1)) * most → end ≤ mid + own * most →
     end + most ≤ start + siblings * most
 all_but_own own siblings start mid end most below first second =
     let rest = siblings - (own + 1) in

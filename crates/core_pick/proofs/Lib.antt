@@ -4,3 +4,4 @@ pub mod Ranges
 pub mod Leads
 pub mod Cases
 pub mod Asked
+mod Noted

@@ -1,5 +1,5 @@
 -- Questions: what a selection asks of the siblings, and what it keeps of their answers.
-use Rattle.std.specs.Prelude.{◌≡◌, ℕ, ◌+◌, ◌-◌, ◌<◌, ◌≤◌, ◌++◌, List, [], ◌∷◌, map, length}
+use Rattle.std.specs.Prelude.{◌≡◌, ℕ, ◌+◌, ◌-◌, ◌<◌, ◌≤◌, ◌++◌, List, [], ◌∷◌, None, length, slice_index_or}
 use Rattle.std.specs.List.{range_with_len}
 use Rattle.cs_types.specs.Room.{RoomState, sibling_of}
 use Rattle.cs_types.specs.Selection.{first_on, cookie_of, lead_from}
@@ -52,10 +52,14 @@ pub record MayAskPart {Q : Type 0} {g : Ghosts Q} (from to : ℕ) (both : Core Q
   pub within : to ≤ length both.0.lanes.items
   pub may : (cpu : ℕ) → cpu < length both.0.lanes.items → MayAsk cpu both
 
--- their first tasks are added to those before, and where the one first leads some siblings, the other leads these too
+-- the first task of a sibling stands in its place
+abbrev pub IsNoted : RoomState → List Choice → ℕ → Type 0
+IsNoted room firsts cpu = slice_index_or firsts cpu (choice_of None) ≡ choice_of (first_on room cpu)
+
+-- so do theirs, and all that did before, and where the one first leads some siblings, the other leads these too
 pub record AsksPart {Q : Type 0} {g : Ghosts Q} (from to : ℕ) (both : Core Q g × Table) (old new : List Choice) (before now : First) : Type 0 where
-  pub firsts : (beside : Beside) → let room = room_of beside both in
-      new ≡ old ++ map (λ cpu. choice_of (first_on room cpu)) (range_with_len from (to - from))
+  pub noted : (beside : Beside) (cpu : ℕ) → from ≤ cpu → cpu < to → IsNoted (room_of beside both) new cpu
+  pub kept : (beside : Beside) (cpu : ℕ) → IsNoted (room_of beside both) old cpu → IsNoted (room_of beside both) new cpu
   pub lead : (beside : Beside) (order : List ℕ) → let room = room_of beside both in
       before ≡ lead_in room order → now ≡ lead_in room (order ++ range_with_len from (to - from))
 

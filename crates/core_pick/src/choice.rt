@@ -9,9 +9,8 @@ ghost use Rattle.core_lanes.specs.Lanes.{lane_state};
 ghost use Rattle.core_pick.specs.Choice.{IsPlan, MayCount, HandsOut, choice_of, kept_in_selection, run_of, task_after_choice};
 
 use crate::sibling::hand;
-use arrayvec::ArrayVec;
 use core_lanes::Lane;
-use cs_types::{Cookie, Cpu, MOST_SIBLINGS, Pid, Queued};
+use cs_types::{Cookie, Cpu, Pid, Queued};
 use sibling_priority::IDLE;
 use task_table::TaskTable;
 
@@ -71,9 +70,6 @@ impl Choice {
         if self.is_idle() { None } else { Some(self.pid) }
     }
 }
-
-/// What each sibling gets, in the order of their numbers.
-pub type Choices = ArrayVec<Choice, MOST_SIBLINGS>;
 
 /// What a selection counts.
 #[derive(Clone, Copy)]

@@ -11,12 +11,12 @@ ghost use Rattle.core_pick.specs.Questions.{KeepsFirst};
 ghost use Rattle.core_pick.specs.Schedules.{may_adopt_by, adoptable_by, MayPick, MaySchedule, MaySelect, Selects, Schedules, SchedulesWithin, ChargesAndSchedules};
 
 use crate::balance::balance;
-use crate::choice::{Choice, Choices, Counts, update};
+use crate::choice::{Choice, Counts, update};
 use crate::lead::First;
 use crate::selection::{ask, choose, first_at};
 use crate::sibling::{run, run_first};
 use core_lanes::{Core, SiblingQueue, charge};
-use cs_types::{Cookie, Cpu, Kind, Pick, Pid, Steps};
+use cs_types::{Cookie, Cpu, Kind, MOST_SIBLINGS, Pick, Pid, Steps};
 use std::sync::ledger::Ledger;
 use task_table::TaskTable;
 
@@ -146,9 +146,10 @@ fn select<Q: SiblingQueue, L: Ledger>(
     // The first was asked before.
     ensures counted { Compares (core.old, table.old) (λ most. steps.new + most ≤ steps.old + most_of_schedule (length core.old.lanes.items) most) }
 {
-    let mut choices = Choices::new();
-    let cookie = ask(&mut choices, core, table, cpu, first, steps);
-    let run = select_for(core, table, cpu, choices.as_mut_slice(), cookie, now, steps);
+    let mut places = [Choice::default(); MOST_SIBLINGS];
+    let choices = &mut places[..core.lanes.len()];
+    let cookie = ask(choices, core, table, cpu, first, steps);
+    let run = select_for(core, table, cpu, choices, cookie, now, steps);
     core.touch();
     core.pick_number = core.task_number;
     core.lanes[cpu as usize].number = core.pick_number;

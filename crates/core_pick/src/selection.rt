@@ -1,8 +1,7 @@
 //! What a selection for the core asks of the queues: the lead, and what each sibling gets for a core cookie.
 //! It is a file of its own since it changes nothing.
 
-ghost use Rattle.std.specs.Prelude.{◌≡◌, ◌+◌, ◌-◌, ◌*◌, ◌≤◌, ◌<◌, ◌==◌, [], length, None, if◌then◌else◌};
-ghost use Rattle.arrayvec.specs.ArrayVec.{array_vec_len};
+ghost use Rattle.std.specs.Prelude.{◌≡◌, ◌+◌, ◌-◌, ◌*◌, ◌≤◌, ◌<◌, ◌==◌, length, None, if◌then◌else◌};
 ghost use Rattle.task_table.specs.Table.{Table};
 ghost use Rattle.core_lanes.specs.Lanes.{Beside, room_of, Agree, AgreesAt};
 ghost use Rattle.cs_types.specs.Order.{first_of};
@@ -11,7 +10,7 @@ ghost use Rattle.core_pick.specs.Choice.{firsts_of, MayCount};
 ghost use Rattle.core_pick.specs.Comparisons.{Compares};
 ghost use Rattle.core_pick.specs.Questions.{MayAsk, AsksOnce, AsksOf, KeepsFirst, LeadsWith, GetsCounted, MayAskPart, AsksPart, AsksAll, GetAll};
 
-use crate::choice::{Choice, Choices, Counts};
+use crate::choice::{Choice, Counts};
 use crate::lead::{First, first_kept};
 use core_lanes::{Core, Lane, SiblingQueue, queued_of};
 use cs_types::{Cookie, Cpu, Steps, Task};
@@ -127,11 +126,11 @@ fn lead_with<Q: SiblingQueue>(core: &Core<Q>, cpu: Cpu, lead: First, first: Firs
     }
 }
 
-/// Notes the first of each sibling from one on up to another, after those before. Each is asked once. It gives the
-/// lead of all so far, where this is that of some before.
+/// Puts the first of each sibling from one on up to another in its place. Each is asked once. It gives the lead of all so
+/// far, where this is that of some before.
 #[inline(always)]
 fn ask_from<Q: SiblingQueue, L: Ledger>(
-    firsts: &mut Choices,
+    firsts: &mut [Choice],
     core: &Core<Q>,
     table: &TaskTable,
     from: Cpu,
@@ -139,49 +138,40 @@ fn ask_from<Q: SiblingQueue, L: Ledger>(
     before: First,
     steps: &mut Steps<L>,
 ) -> First
-    requires so_far { array_vec_len firsts.old ≡ from }
+    requires many { length firsts.old ≡ length core.now.lanes.items }
     requires part { MayAskPart from to (core.now, table.now) }
-    ensures so_far { array_vec_len firsts.new ≡ to }
-    ensures asks { AsksPart from to (core.now, table.now) firsts.old.items firsts.new.items before result }
+    ensures asks { AsksPart from to (core.now, table.now) firsts.old firsts.new before result }
     ensures counted { Compares (core.now, table.now) (λ most. steps.new ≤ steps.old + (to - from) * most) }
 {
     let mut lead = before;
     for cpu in from..to {
         let first = first_at(core, table, cpu, steps);
-        firsts.push(first.choice);
+        firsts[cpu as usize] = first.choice;
         lead = lead_with(core, cpu, lead, first);
     }
     lead
 }
 
-/// Puts into the empty list the first of each sibling, where this is the one's. Each of the others is asked once. It
-/// gives the cookie of the lead of a selection that the one makes, 0 for idle.
+/// Puts the first of each sibling in its place, where this is the one's. Each of the others is asked once, in the order
+/// in which they may lead: from the one on. It gives the cookie of the lead of a selection that the one makes, 0 for idle.
 pub fn ask<Q: SiblingQueue, L: Ledger>(
-    firsts: &mut Choices,
+    firsts: &mut [Choice],
     core: &Core<Q>,
     table: &TaskTable,
     own: Cpu,
     first: &First,
     steps: &mut Steps<L>,
 ) -> Cookie
-    requires empty { firsts.old.items ≡ [] }
+    requires many { length firsts.old ≡ length core.now.lanes.items }
     requires may { MayAsk own (core.now, table.now) }
     requires first { KeepsFirst own (core.now, table.now) first.now }
-    ensures asks { AsksAll own (core.now, table.now) firsts.new.items result }
+    ensures asks { AsksAll own (core.now, table.now) firsts.new result }
     ensures counted { Compares (core.now, table.now) (λ most. steps.new + most ≤ steps.old + length core.now.lanes.items * most) }
 {
-    let nobody = First::idle();
-    let before = ask_from(firsts, core, table, 0, own, nobody, steps);
-    firsts.push(first.choice);
-    let offer = lead_with(core, own, nobody, *first);
-    let lead = ask_from(
-        firsts,
-        core,
-        table,
-        own + 1,
-        core.lanes.len() as u8,
-        offer,
-        steps,
-    );
-    lead.or_higher(before).choice.cookie
+    firsts[own as usize] = first.choice;
+    let offer = lead_with(core, own, First::idle(), *first);
+    let count = core.lanes.len() as u8;
+    let behind = ask_from(firsts, core, table, own + 1, count, offer, steps);
+    let lead = ask_from(firsts, core, table, 0, own, behind, steps);
+    lead.choice.cookie
 }

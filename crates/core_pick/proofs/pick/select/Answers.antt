@@ -18,7 +18,7 @@ pub select_for-run-requires : goal.select_for-run-requires
 select_for-run-requires g c = record {
   may = record {
     at = record { cpu = c.requires.may.cpu; agree = c.requires.may.agree };
-    asked = record { each = λ beside. c.as_mut_slice.ensures.value ∙ c.ask-cookie.ensures.asks.each beside; lead = c.ask-cookie.ensures.asks.lead };
+    asked = c.ask-cookie.ensures.asks;
     clock = c.requires.may.clock;
   };
 }
