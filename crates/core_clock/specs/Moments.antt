@@ -1,5 +1,5 @@
 -- Moments: what is asked of a core and its table, and made of them, where the clock is read or goes on.
-use Rattle.std.specs.Prelude.{◌≡◌, ℕ, Bool, ◌+◌, ◌^◌, ◌<◌, find, IsSome}
+use Rattle.std.specs.Prelude.{◌≡◌, ℕ, Bool, false, ◌+◌, ◌^◌, ◌<◌, find, IsSome}
 use Rattle.cs_types.specs.declared.reply.Reply.TheVariants.{Ticked}
 use Rattle.cs_types.specs.declared.task.Task.{Task}
 use Rattle.cs_types.specs.Room.{RoomState, has_pid, running_on}
@@ -20,6 +20,12 @@ pub record MayQueue {Q : Type 0} {g : Ghosts Q} (now count : ℕ) (both : Core Q
   pub clock : now + 1000000000 < 2 ^ 56
   pub stamp : both.0.next_stamp + 1 < 2 ^ 64
   pub touches : both.0.task_number + count < 2 ^ 64
+
+-- the same of a task that sleeps in the table, where it is another but for its home and its virtual time
+pub record MayWakeAtHome {Q : Type 0} {g : Ghosts Q} (now : ℕ) (both : Core Q g × Table) (task : Task) : Type 0 where
+  pub may : MayQueue now 1 both task
+  pub asleep : may.knows.apart.old.queued ≡ false
+  pub is : task ≡ record may.knows.apart.old { home = task.home; queued = task.queued; vtime = task.vtime }
 
 -- the sibling is one of the core, and the task one of the table, that agree
 pub record MayAsk {Q : Type 0} {g : Ghosts Q} (cpu : ℕ) (both : Core Q g × Table) (task : Task) : Type 0 where

@@ -4,5 +4,5 @@
 mod queueing;
 mod time;
 
-pub use queueing::{online_home, queue_at_home, rehome};
+pub use queueing::{online_home, rehome, wake_at_home};
 pub use time::{advance, tick};

@@ -7,7 +7,7 @@ ghost use Rattle.cs_types.specs.Queueing.{online_home, rehomed, preempts, refres
 ghost use Rattle.task_table.specs.Table.{Table};
 ghost use Rattle.core_lanes.specs.Lanes.{Beside, at, room_of, IsFit, CanMove};
 ghost use Rattle.core_lanes.specs.Comparisons.{ComparesFor};
-ghost use Rattle.core_clock.specs.Moments.{MayQueue, TouchesAt};
+ghost use Rattle.core_clock.specs.Moments.{MayWakeAtHome, TouchesAt};
 
 use core_lanes::{Core, SiblingQueue, is_higher};
 use cs_types::{Cpu, Policy, Steps, Task};
@@ -54,6 +54,7 @@ pub fn rehome<Q: SiblingQueue>(core: &Core<Q>, task: &mut Task)
 }
 
 /// Whether the task, once it is queued, asks its sibling to reschedule: that runs idle or a lower one.
+#[inline(always)]
 fn preempts<Q: SiblingQueue>(core: &Core<Q>, table: &TaskTable, task: &Task) -> bool
     requires { task.now.home < length core.now.lanes.items }
     ensures { (beside : Beside) → result ≡ preempts (room_of beside (core.now, table.now)) task.now }
@@ -79,22 +80,23 @@ fn refresh<Q: SiblingQueue>(core: &Core<Q>, task: &mut Task, now: u64)
     }
 }
 
-/// The task is queued at its home, which may become pending.
+/// The task, which sleeps in the table and is as it is there but for its home and its virtual time, is queued at its home,
+/// which may become pending.
 #[inline(always)]
-pub fn queue_at_home<Q: SiblingQueue, L: Ledger>(
+pub fn wake_at_home<Q: SiblingQueue, L: Ledger>(
     core: &mut Core<Q>,
     table: &mut TaskTable,
     task: Task,
     now: u64,
     steps: &mut Steps<L>,
 )
-    requires { MayQueue now 1 (core.old, table.old) task }
+    requires { MayWakeAtHome now (core.old, table.old) task }
     ensures touches { TouchesAt now 1 (core.old, table.old) (core.new, table.new) (λ room. queue_at_home room task) }
-    ensures counted { ComparesFor 2 (core.old, table.old) steps.old steps.new }
+    ensures counted { ComparesFor 1 (core.old, table.old) steps.old steps.new }
 {
     let mut fresh = task;
     refresh(core, &mut fresh, now);
     let preempts = preempts(core, table, &fresh);
-    core.enqueue(table, fresh, steps);
+    core.wake(table, &fresh, steps);
     core.flag(task.home, preempts);
 }

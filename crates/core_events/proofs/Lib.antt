@@ -8,3 +8,4 @@ pub mod Views
 pub mod Playable
 pub mod Ends
 pub mod Crosses
+pub mod Wakes

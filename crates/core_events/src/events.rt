@@ -16,7 +16,7 @@ ghost use Rattle.core_events.specs.Comparisons.{ComparesForEvent};
 ghost use Rattle.core_events.specs.Tried.{AnswersTry};
 
 use cookie_steal::{Try, try_steal};
-use core_clock::{online_home, queue_at_home, rehome};
+use core_clock::{online_home, rehome, wake_at_home};
 use core_lanes::{Core, SiblingQueue, charge, task_of};
 use core_pick::{pick_and_balance, schedule};
 use core_tasks::State;
@@ -92,7 +92,7 @@ fn requeue<Q: SiblingQueue, L: Ledger>(
 {
     let runs = core.lanes[task.home as usize].runs(task.spec.pid);
     core.dequeue(table, task, steps);
-    queue_at_home(core, table, task, now, steps);
+    wake_at_home(core, table, task, now, steps);
     core.flag(task.home, runs);
 }
 
@@ -173,7 +173,9 @@ fn block<Q: SiblingQueue, G: Guard, L: Ledger>(
         return Reply::Idle;
     };
     charge(&mut state.core, &mut state.tasks, state.clock);
-    state.core.dequeue(&mut state.tasks, task, steps);
+    state
+        .core
+        .put_to_sleep(&mut state.tasks, task.spec.pid, steps);
     state.core.run_idle(cpu);
     Reply::Slept {
         pid: task.spec.pid,
@@ -243,7 +245,7 @@ fn wake<Q: SiblingQueue, G: Guard, L: Ledger>(
         return Reply::Awake;
     }
     rehome(&state.core, &mut task);
-    queue_at_home(&mut state.core, &mut state.tasks, task, state.clock, steps);
+    wake_at_home(&mut state.core, &mut state.tasks, task, state.clock, steps);
     Reply::Woken(task.home)
 }
 
@@ -275,7 +277,7 @@ fn fork<Q: SiblingQueue, G: Guard, L: Ledger>(
     match state.make_child(caller, thread) {
         Ok(child) => {
             let task = child_at_home(&state.core, child);
-            queue_at_home(&mut state.core, &mut state.tasks, task, state.clock, steps);
+            wake_at_home(&mut state.core, &mut state.tasks, task, state.clock, steps);
             Reply::Child(child.spec.pid)
         }
         Err(ForkFault::NoCaller) => Reply::NoCaller,

@@ -1,6 +1,7 @@
 -- Lists: what filters, searches and scans of a list say of the list that it stands for.
-use Rattle.std.proofs.Common.{◌≡◌, ltb, ℕ, zero, suc, ◌+◌, ◌<◌, Bool, true, false, cond, List, [], ◌∷◌, ◌++◌, map, refl, sym, ap, ◌∙◌, length, take, drop, set, get_or, arith, add-one, Some, ◌≤◌}
-use Rattle.std.specs.Prelude.{filter, find, count_by, is_some, ◌&&◌, ◌||◌, All, IfSome, Contains}
+use Rattle.std.proofs.Common.{◌≡◌, ltb, ℕ, zero, suc, ◌+◌, ◌<◌, Bool, true, false, cond, List, [], ◌∷◌, ◌++◌, map, refl, sym, ap, ◌∙◌, length, take, drop, set, get_or, arith, add-one, Option, Some, None, Bor, ◌≤◌}
+use Rattle.std.specs.Prelude.{option_copied, filter, find, count_by, is_some, ◌&&◌, ◌||◌, All, IfSome, Contains}
+use Rattle.std.specs.Option.{IsSome}
 use Rattle.std.specs.List.{enumerate_from, range_with_len, list_any}
 use Rattle.std.specs.Cmp.{IsStrictWeakOrder}
 use Rattle.std.proofs.lemmas.Bool.Decides.{nat_tests}
@@ -203,3 +204,14 @@ some_more count = grind (arith, nat_tests)
 pub is_some-first_of : (tasks : List Task) → is_some (first_of tasks) ≡ ltb 0 (length tasks)
 is_some-first_of [] = refl
 is_some-first_of (task ∷ tasks) = ap is_some (first_of_reduce (task ∷ tasks)) ∙ some_more (length tasks)
+
+-- what was found is there
+pub is_there : (found : Option (Bor Task)) (task : Task) → option_copied found ≡ Some task → IsSome found
+is_there None task is = absurd cc
+is_there (Some found) task is = refl
+
+-- the one that is found is it
+pub is_it : (found : Option (Bor Task)) (entered : Bor Task) (task : Task) → found ≡ Some entered → option_copied found ≡ Some task → task ≡ entered.now
+is_it found entered task is copied =
+    let same : Some entered.now ≡ Some task = sym (ap option_copied is) ∙ copied in
+    cc

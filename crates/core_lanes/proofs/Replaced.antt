@@ -5,13 +5,14 @@ use Rattle.std.proofs.lemmas.Bool.{cond_both, cond-true, cond-false, cases_Bool,
 use Rattle.task_table.specs.Table.{Table, IsSound as IsTable, Rises, RisesFrom}
 use Rattle.std.proofs.lemmas.List.Elements.{All-map, All-weaker}
 use Rattle.cs_types.specs.declared.task.Task.{Task}
-use Rattle.cs_types.specs.Room.{has_pid}
+use Rattle.cs_types.specs.Room.{has_pid, with_task}
 use Rattle.cs_types.proofs.Spots.{replaced_by, find-replaced}
 use Rattle.core_lanes.specs.Queued.{queued_at, IsOf, HasOwnStamp, AreStamped}
 use Rattle.core_lanes.specs.declared.queue.SiblingQueue.{Ghosts}
 use Rattle.core_lanes.specs.declared.lanes.Core.{Core}
-use Rattle.core_lanes.specs.Lanes.{BareCore, bare, Agree, AreHeld, IsFit, MayStamp, FitsIn}
-use Rattle.core_lanes.specs.Changes.{identity_of}
+use Rattle.core_lanes.specs.Lanes.{BareCore, bare, room_by, Agree, AreHeld, IsFit, MayStamp, FitsIn, Knows, Replaces}
+use Rattle.core_lanes.specs.Numbers.{numbers_by}
+use Rattle.core_lanes.specs.Changes.{Kept, identity_of, kept_of, Changes}
 use Rattle.core_lanes.proofs.Queues.{is_on, absent_from, others-replaced}
 use Rattle.core_lanes.proofs.Stays.{as_many_bare}
 
@@ -154,4 +155,28 @@ agree-replaced old new before now task fits same changed sound held =
           (subst (λ (core : BareCore). AreStamped core.next_stamp after.tasks) (sym same)
           (stamped-replaced task apart.old before.tasks apart.there old.next_stamp fits.stamp apart.agree.stamped));
       held = held;
+    }
+
+-- a task that is known fits in the place of the one with its pid
+pub fits_known : {Q : Type 0} {g : Ghosts Q} (both : Core Q g × Table) (task : Task) → Knows both task → FitsIn both task
+fits_known both task knows = record { apart = knows.known.apart; stamp = knows.stamp }
+
+-- where it stands there, the room is the one with this task
+pub changes_known : {Q : Type 0} {g : Ghosts Q} (core now : Core Q g) (table after : Table) (task : Task) →
+    Knows (core, table) task → Replaces task (core, table) (now, after) → Changes (core, table) (now, after) (λ room. with_task room task)
+changes_known core now table after task knows replaced =
+    let apart = knows.known.apart in
+    record {
+      room = λ beside i. room_by beside (replaced.bare i) (replaced.table i);
+      numbers = λ i. numbers_by (replaced.bare i) (replaced.table i);
+      stays = record {
+        agree = λ agree. replaced.agree;
+        kept = (λ i. record {
+          siblings = as_many_bare core now replaced.bare i;
+          limit = (replaced.table i).limit;
+          identities = map identity_of (replaced.table i).tasks;
+        })
+            ∙ ap (λ (identities : List (ℕ × ℕ)). let kept : Kept = record (kept_of (core, table)) { identities = identities } in kept)
+            (identities-replaced task apart.old table.tasks apart.agree.table.rising apart.there knows.known.cookie);
+      };
     }

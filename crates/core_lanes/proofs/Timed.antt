@@ -60,7 +60,7 @@ knows-alike both task old agree there keeps =
     }
 
 -- a change of the one with a pid puts it into its own place
-timed_is : (f : Task → Task) (pid : ℕ) (tasks : List Task) (was : Task) → Rises tasks → find (has_pid pid) tasks ≡ Some was → (f was).spec ≡ was.spec →
+pub timed_is : (f : Task → Task) (pid : ℕ) (tasks : List Task) (was : Task) → Rises tasks → find (has_pid pid) tasks ≡ Some was → (f was).spec ≡ was.spec →
     map (λ other. cond (has_pid pid other) (f other) other) tasks ≡ map (replaced_by (f was)) tasks
 timed_is f pid tasks was rises found spec =
     let at : was.spec.pid ≡ pid = eqb-true was.spec.pid pid (find_passes (has_pid pid) tasks was found) in

@@ -246,6 +246,19 @@ pub record MayEnqueue {Q : Type 0} {g : Ghosts Q} (both : Core Q g × Table) (ta
   pub stamp : both.0.next_stamp + 1 < 2 ^ 64
   pub touches : both.0.task_number + 1 < 2 ^ 64
 
+-- the task with the pid may be put to sleep: there is one, and the touch does not overflow
+pub record MaySleep {Q : Type 0} {g : Ghosts Q} (pid : ℕ) (both : Core Q g × Table) : Type 0 where
+  pub agree : Agree both
+  pub task : Task
+  pub there : find (has_pid pid) both.1.tasks ≡ Some task
+  pub touches : both.0.task_number + 1 < 2 ^ 64
+
+-- a task may be queued that sleeps in the table, and is another there but for its home and its times
+pub record MayWake {Q : Type 0} {g : Ghosts Q} (both : Core Q g × Table) (task : Task) : Type 0 where
+  pub may : MayEnqueue both task
+  pub asleep : may.knows.apart.old.queued ≡ false
+  pub is : task ≡ record may.knows.apart.old { home = task.home; queued = task.queued; vtime = task.vtime; deadline = task.deadline }
+
 -- the tasks queued on a sibling may be told, in a list that has as many places
 pub record MayTell {Q : Type 0} {g : Ghosts Q} (cpu : ℕ) (both : Core Q g × Table) (movers : List ℕ) : Type 0 where
   pub agree : AgreesAt cpu both

@@ -54,7 +54,7 @@ pub struct Core<Q: SiblingQueue> {
 
 impl<Q: SiblingQueue> Core<Q> {
     ghost use Rattle.core_lanes.specs.Queued.{HasOwnStamp};
-    ghost use Rattle.core_lanes.specs.Lanes.{Beside, room_of, Agree, AgreeAway, AgreesAt, AreHeld, AreHeldBut, ChangesQueues, Replaces, Knows, MayDequeue, MayEnqueue, MayTell, IsFirstCore, IsAtHome, CanMove, MayEnter};
+    ghost use Rattle.core_lanes.specs.Lanes.{Beside, room_of, Agree, AgreeAway, AgreesAt, AreHeld, AreHeldBut, ChangesQueues, Replaces, Knows, MayDequeue, MayEnqueue, MaySleep, MayWake, MayTell, IsFirstCore, IsAtHome, CanMove, MayEnter};
     ghost use Rattle.core_lanes.specs.Numbers.{numbers_of, is_fresh_by};
     ghost use Rattle.core_lanes.specs.Changes.{Changes, Touches, Enters};
     ghost use Rattle.core_lanes.specs.Comparisons.{ComparesFor};
@@ -308,6 +308,38 @@ impl<Q: SiblingQueue> Core<Q> {
         let mut asleep = task;
         asleep.queued = false;
         self.change(table, asleep, steps);
+        self.touch();
+    }
+
+    /// The task with the pid is asleep (`dequeue_task`). It is changed where it stands in the table, since to copy a task
+    /// takes longer.
+    #[inline(always)]
+    pub fn put_to_sleep<L: Ledger>(&mut self, table: &mut TaskTable, pid: Pid, steps: &mut Steps<L>)
+        requires { MaySleep pid (self.old, table.old) }
+        ensures touches { (task : SomeTask) → find (has_pid pid) table.old.tasks ≡ Some task →
+            Touches 1 (self.old, table.old) (self.new, table.new) (λ room. dequeue room task) }
+        ensures counted { ComparesFor 1 (self.old, table.old) steps.old steps.new }
+    {
+        let task = table.find(pid).unwrap();
+        self.take(table, task, steps);
+        table.put_to_sleep(pid);
+        self.touch();
+    }
+
+    /// The task, which sleeps in the table, is queued as it is here, with the next stamp (`enqueue_task`). What is other here,
+    /// its home and its times, is changed where it stands in the table.
+    #[inline(always)]
+    pub fn wake<L: Ledger>(&mut self, table: &mut TaskTable, task: &Task, steps: &mut Steps<L>)
+        requires { MayWake (self.old, table.old) task.now }
+        ensures touches { Touches 1 (self.old, table.old) (self.new, table.new) (λ room. enqueue room task.now) }
+        ensures counted { ComparesFor 1 (self.old, table.old) steps.old steps.new }
+    {
+        let stamp = self.next_stamp;
+        self.next_stamp += 1;
+        let pid = task.spec.pid;
+        table.queue_up(pid, task.home, task.vtime, task.deadline, stamp);
+        let queued = table.find(pid).unwrap();
+        self.put(table, queued, steps);
         self.touch();
     }
 

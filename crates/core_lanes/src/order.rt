@@ -26,6 +26,7 @@ pub fn is_fair(task: &Task) -> bool
 
 /// Whether the task is higher than the other, where both queue on one sibling (`prio_less`,
 /// kernel/sched/core.c).
+#[inline(always)]
 pub fn is_higher(task: &Task, other: &Task) -> bool
     ensures { result ≡ is_higher_here task.now other.now }
 {

@@ -23,6 +23,15 @@ pub(crate) enum Edit {
     Vtime(u128),
     /// It has used this much of its slice, in ns.
     Used(u64),
+    /// It is asleep.
+    Asleep,
+    /// It is queued on this sibling, with this virtual time and this deadline, in ns, and this stamp.
+    Queued {
+        cpu: Cpu,
+        vtime: u128,
+        deadline: u64,
+        stamp: u64,
+    },
 }
 
 impl Edit {
@@ -46,6 +55,19 @@ impl Edit {
             }
             Edit::Vtime(vtime) => task.vtime = vtime,
             Edit::Used(used) => task.used = used,
+            Edit::Asleep => task.queued = false,
+            Edit::Queued {
+                cpu,
+                vtime,
+                deadline,
+                stamp,
+            } => {
+                task.home = cpu;
+                task.queued = true;
+                task.vtime = vtime;
+                task.deadline = deadline;
+                task.stamp = stamp;
+            }
         }
     }
 }

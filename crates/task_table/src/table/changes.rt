@@ -1,7 +1,7 @@
 //! What changes the table: a task comes, is charged, is edited and goes. It is a part of the table's module, since nobody
 //! else reads the fields of the table.
 
-ghost use Rattle.std.specs.Prelude.{◌≡◌, ℕ, ◌+◌, ◌-◌, ◌<◌, ◌^◌, ◌==◌, map, min, filter, find, not, slice_set, List, if◌then◌else◌, IfNone, OnOk, OnErr, MatchOption, IsSome};
+ghost use Rattle.std.specs.Prelude.{◌≡◌, ℕ, ◌+◌, ◌-◌, ◌<◌, ◌^◌, ◌==◌, true, false, map, min, filter, find, not, slice_set, List, if◌then◌else◌, IfNone, OnOk, OnErr, MatchOption, IsSome};
 ghost use Rattle.std.specs.Option.{option_map};
 ghost use Rattle.cs_types.specs.Room.{asleep, inserted, has_pid};
 ghost use Rattle.cs_types.specs.declared.task.Task.{Task as SomeTask};
@@ -235,6 +235,37 @@ impl TaskTable {
         ensures sound { IsSound self.new }
     {
         self.edit(pid, Edit::Used(used));
+    }
+
+    /// The task with the pid, if there is one, is asleep (`on_rq`). Nothing else changes.
+    #[inline(always)]
+    pub fn put_to_sleep(&mut self, pid: Pid)
+        ensures asleep { self.new ≡ record self.old {
+          tasks = map (λ (task : SomeTask). if has_pid pid task then record task { queued = false } else task) self.old.tasks;
+        } }
+        ensures sound { IsSound self.new }
+    {
+        self.edit(pid, Edit::Asleep);
+    }
+
+    /// The task with the pid, if there is one, is queued on this sibling, with this virtual time and this deadline, in ns,
+    /// and with this stamp. Nothing else changes.
+    #[inline(always)]
+    pub fn queue_up(&mut self, pid: Pid, cpu: Cpu, vtime: u128, deadline: u64, stamp: u64)
+        ensures queued { self.new ≡ record self.old {
+          tasks = map (λ (task : SomeTask). if has_pid pid task then record task { home = cpu; queued = true; vtime = vtime; deadline = deadline; stamp = stamp } else task) self.old.tasks;
+        } }
+        ensures sound { IsSound self.new }
+    {
+        self.edit(
+            pid,
+            Edit::Queued {
+                cpu,
+                vtime,
+                deadline,
+                stamp,
+            },
+        );
     }
 
     /// Takes the task with the pid out, and gives it and what it was charged for forced idle, in ns. `None`

@@ -1,4 +1,4 @@
-use Rattle.std.proofs.Common.{◌≡◌, ap, ◌∙◌, sym, subst, ◌<◌, length, arith, [], ◌+◌, ◌≤◌}
+use Rattle.std.proofs.Common.{◌≡◌, refl, ap, ◌∙◌, sym, subst, ◌<◌, length, arith, [], ◌+◌, ◌≤◌}
 use Rattle.std.proofs.lemmas.Bool.{cond-false, cond-true}
 use Rattle.std.specs.Prelude.{Some}
 use Rattle.cs_types.specs.declared.reply.Reply.TheVariants.{Child, NoCaller, Refused}
@@ -11,7 +11,8 @@ use Rattle.core_lanes.specs.Numbers.{Numbers, touched, with_ended}
 use Rattle.core_lanes.proofs.Stays.{some_beside}
 use Rattle.core_tasks.specs.State.{beside_of, both, room_with, state_numbers}
 use Rattle.core_tasks.proofs.States.{uncharged, lifted, both_stay, leaves_all}
-use Rattle.core_tasks.proofs.Known.{fits_found, knows_as}
+use Rattle.core_tasks.proofs.Known.{fits_found}
+use Rattle.core_events.proofs.Wakes.{may_wake}
 use Rattle.cs_types.specs.declared.event.Event.TheVariants.{Fork}
 use Rattle.cs_types.specs.declared.reply.Errno.TheVariants.{Eagain}
 use Rattle.core_tasks.specs.declared.state.State.{State}
@@ -30,24 +31,21 @@ child_at_home-task-requires g c =
     (subst (λ count. makes.0.home < count) (sym born.stays.siblings) fit.home)
 
 -- the child at home is the child but for its home and its virtual time
-pub queue_at_home-requires : goal.queue_at_home-requires
-queue_at_home-requires g c =
+pub wake_at_home-requires : goal.wake_at_home-requires
+wake_at_home-requires g c =
     let makes = c.in-Ok.ensures in
     let born = makes.2 in
     let after = c.make_child.new.self in
     let fit = fits_found (both c.args.state.now) c.args.caller makes.0 c.requires.ready.sound.agree makes.1 in
-    let is = c.child_at_home-task.ensures.child_at_home some_beside after.tasks in
-    record {
-      knows = knows_as (both after) c.child_at_home-task.result c.in-Ok.child (born.stays.sound c.requires.ready.sound).agree
-          (ap (λ (task : Task). task.spec.pid) is) (ap (λ (task : Task). task.cookie) is) born.there
-          (record {
-            home = c.child_at_home-task.ensures.within;
-            policy = subst (λ (task : Task). IsPolicy task.spec.policy) (sym is) (subst (λ (task : Task). IsPolicy task.spec.policy) (sym born.is) fit.policy);
-          });
-      clock = omega (arith, ap (λ (room : RoomState). room.clock) (born.room []), c.requires.ready.time.clock);
-      stamp = omega (arith, ap (λ (room : RoomState). room.next_stamp) (born.room []), c.requires.ready.spares.stamps);
-      touches = omega (arith, ap (λ (numbers : Numbers). numbers.task) born.numbers, c.requires.ready.spares.touches);
-    }
+    let child = c.in-Ok.child in
+    let is : c.child_at_home-task.result ≡ record child { home = c.child_at_home-task.result.home; vtime = c.child_at_home-task.result.vtime } =
+    subst (λ (t : Task). t ≡ record child { home = t.home; vtime = t.vtime }) (sym (c.child_at_home-task.ensures.child_at_home some_beside after.tasks)) refl in
+    may_wake after.clock (both after) c.child_at_home-task.result child (born.stays.sound c.requires.ready.sound).agree born.there (ap (λ (task : Task). task.queued) born.is)
+    (is ∙ (λ i. record child { home = c.child_at_home-task.result.home; queued = (sym is i).queued; vtime = c.child_at_home-task.result.vtime }))
+    c.child_at_home-task.ensures.within (subst (λ (task : Task). IsPolicy task.spec.policy) (sym born.is) fit.policy)
+    (omega (arith, ap (λ (room : RoomState). room.clock) (born.room []), c.requires.ready.time.clock))
+    (omega (arith, ap (λ (room : RoomState). room.next_stamp) (born.room []), c.requires.ready.spares.stamps))
+    (omega (arith, ap (λ (numbers : Numbers). numbers.task) born.numbers, c.requires.ready.spares.touches))
 
 pub returns-in-Ok-clause-makes : goal.returns-in-Ok-clause-makes
 returns-in-Ok-clause-makes g c =
@@ -56,7 +54,7 @@ returns-in-Ok-clause-makes g c =
     let makes = c.in-Ok.ensures in
     let born = makes.2 in
     let child = c.in-Ok.child in
-    let queued = c.queue_at_home.ensures.touches in
+    let queued = c.wake_at_home.ensures.touches in
     record {
       step = λ intervals.
           let room = room_with intervals old in
@@ -74,7 +72,7 @@ returns-in-Ok-clause-makes g c =
                 ∙ ap (λ (m : Stepped). m.room) whole;
             numbers = ap (with_ended after.ended.items) queued.numbers ∙ ap (λ (numbers : Numbers). touched 1 numbers) born.numbers;
           });
-      stays = both_stay born.stays (lifted after (c.queue_at_home.new.core, c.queue_at_home.new.table) queued.stays);
+      stays = both_stay born.stays (lifted after (c.wake_at_home.new.core, c.wake_at_home.new.table) queued.stays);
     }
 
 pub returns-in-Err-NoCaller-clause-makes : goal.returns-in-Err-NoCaller-clause-makes
@@ -99,4 +97,4 @@ returns-in-Ok-clause-counted g c =
     let old = c.args.state.now in
     let tasks = length old.tasks.tasks in
     let few : length c.make_child.new.self.tasks.tasks ≤ tasks + 1 = omega (arith, ap (λ (r : RoomState). length r.tasks) (c.in-Ok.ensures.2.room []), length-inserted c.in-Ok.child old.tasks.tasks) in
-    omega (arith, c.queue_at_home.ensures.counted, g.met.Q.SiblingQueue.rises (length c.make_child.new.self.tasks.tasks) (tasks + 1) few)
+    omega (arith, c.wake_at_home.ensures.counted, g.met.Q.SiblingQueue.rises (length c.make_child.new.self.tasks.tasks) (tasks + 1) few)

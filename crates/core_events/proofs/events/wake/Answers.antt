@@ -2,9 +2,7 @@ use Rattle.std.proofs.Common.{◌≡◌, ◌<◌, ◌^◌, ◌∙◌, ap, sym, s
 use Rattle.std.proofs.lemmas.Bool.{cond-false, cond_both, cond-true}
 use Rattle.std.specs.Prelude.{Some}
 use Rattle.cs_types.specs.declared.task.Task.{Task}
-use Rattle.cs_types.specs.declared.task.TaskSpec.{TaskSpec}
 use Rattle.cs_types.specs.declared.reply.Reply.TheVariants.{Woken, NoTask, Awake}
-use Rattle.cs_types.specs.Scenario.{IsPolicy}
 use Rattle.cs_types.specs.Room.{RoomState, is_online, lowest_online}
 use Rattle.cs_types.specs.Queueing.{moved_to, rehomed, queue_at_home}
 use Rattle.cs_types.specs.Step.{Stepped, wake}
@@ -13,7 +11,8 @@ use Rattle.core_lanes.proofs.Stays.{found_in, some_beside}
 use Rattle.core_tasks.specs.State.{beside_of, both, room_with, state_numbers}
 use Rattle.core_tasks.proofs.States.{uncharged, lifted, leaves_all}
 use Rattle.core_events.proofs.Readies.{low_times}
-use Rattle.core_tasks.proofs.Known.{fits_found, knows_as}
+use Rattle.core_tasks.proofs.Known.{fits_found}
+use Rattle.core_events.proofs.Wakes.{may_wake}
 use Rattle.cs_types.specs.declared.event.Event.TheVariants.{Wake}
 use Rattle.core_events.proofs.Onlines.{untouched}
 use Rattle.core_lanes.specs.Numbers.{with_ended}
@@ -30,33 +29,26 @@ rehome-requires g c =
       leasts = low.leasts;
     }
 
--- a task at another home has its pid, its policy and its cookie still
-kept : (room : RoomState) (task : Task) → ((rehomed room task).spec ≡ task.spec) × ((rehomed room task).cookie ≡ task.cookie)
+-- a task at another home is the same but for its home and its virtual time
+kept : (room : RoomState) (task : Task) → let at = rehomed room task in at ≡ record task { home = at.home; vtime = at.vtime }
 kept room task =
-    let moved = moved_to room (lowest_online room) task in
-    cond_both (is_online room task.home) task moved (λ (t : Task). (t.spec ≡ task.spec) × (t.cookie ≡ task.cookie)) (λ _. (refl, refl)) (λ _. (refl, refl))
+    cond_both (is_online room task.home) task (moved_to room (lowest_online room) task) (λ (t : Task). t ≡ record task { home = t.home; vtime = t.vtime }) (λ _. refl) (λ _. refl)
 
-pub queue_at_home-requires : goal.queue_at_home-requires
-queue_at_home-requires g c =
+pub wake_at_home-requires : goal.wake_at_home-requires
+wake_at_home-requires g c =
     let state = c.args.state.now in
     let task = c.in-Some.task in
-    let is = c.rehome.ensures.rehomed some_beside state.tasks in
-    let same = kept (room_of some_beside (both state)) task in
-    let spec = ap (λ (t : Task). t.spec) is ∙ same.0 in
+    let is = subst (λ (t : Task). t ≡ record task { home = t.home; vtime = t.vtime }) (sym (c.rehome.ensures.rehomed some_beside state.tasks)) (kept (room_of some_beside (both state)) task) in
     let fit = fits_found (both state) c.args.pid task c.requires.ready.sound.agree (sym c.in-Some.ensures.task) in
-    record {
-      knows = knows_as (both state) c.rehome.new.task task c.requires.ready.sound.agree (ap (λ (s : TaskSpec). s.pid) spec) (ap (λ (t : Task). t.cookie) is ∙ same.1) c.in-Some.ensures.there
-          (record { home = c.rehome.ensures.within; policy = subst (λ (s : TaskSpec). IsPolicy s.policy) (sym spec) fit.policy });
-      clock = c.requires.ready.time.clock;
-      stamp = omega (arith, c.requires.ready.spares.stamps);
-      touches = omega (arith, c.requires.ready.spares.touches);
-    }
+    may_wake state.clock (both state) c.rehome.new.task task c.requires.ready.sound.agree c.in-Some.ensures.there c.if-task.false
+    (is ∙ (λ i. record task { home = c.rehome.new.task.home; queued = (sym is i).queued; vtime = c.rehome.new.task.vtime })) c.rehome.ensures.within fit.policy
+    c.requires.ready.time.clock (omega (arith, c.requires.ready.spares.stamps)) (omega (arith, c.requires.ready.spares.touches))
 
 pub returns-clause-makes : goal.returns-clause-makes
 returns-clause-makes g c =
     let old = c.args.state.now in
     let task = c.in-Some.task in
-    let queued = c.queue_at_home.ensures.touches in
+    let queued = c.wake_at_home.ensures.touches in
     record {
       step = λ intervals.
           let room = room_with intervals old in
@@ -69,7 +61,7 @@ returns-clause-makes g c =
             room = queued.room beside ∙ ap (λ (m : Stepped). m.room) is ∙ ap (λ found. (wake room found).room) c.in-Some.ensures.task;
             numbers = ap (with_ended old.ended.items) queued.numbers;
           });
-      stays = lifted old (c.queue_at_home.new.core, c.queue_at_home.new.table) queued.stays;
+      stays = lifted old (c.wake_at_home.new.core, c.wake_at_home.new.table) queued.stays;
     }
 
 pub returns-in_default-clause-makes : goal.returns-in_default-clause-makes
@@ -82,4 +74,4 @@ returns-then-task-clause-makes g c = leaves_all c.args.state.now (Wake c.args.pi
     sym (cond-true c.in-Some.task.queued (record { reply = Awake; room = room }) _ c.if-task.true) ∙ ap (wake room) c.in-Some.ensures.task)
 
 pub returns-clause-counted : goal.returns-clause-counted
-returns-clause-counted g c = for_event g.met.Q.SiblingQueue.rises 2 c.args.state.now (Wake c.args.pid) _ _ (omega arith) c.queue_at_home.ensures.counted
+returns-clause-counted g c = for_event g.met.Q.SiblingQueue.rises 1 c.args.state.now (Wake c.args.pid) _ _ (omega arith) c.wake_at_home.ensures.counted

@@ -1,48 +1,19 @@
-use Rattle.std.proofs.Common.{◌≡◌, ◌<◌, ◌≤◌, ◌+◌, ◌*◌, arith, ℕ, List, refl, sym, subst, ap, ◌∙◌, map, length}
+use Rattle.std.proofs.Common.{◌≡◌, ◌<◌, ◌≤◌, ◌+◌, ◌*◌, arith, refl, sym, subst, ap, ◌∙◌, length}
 use Rattle.std.specs.Prelude.{option_copied}
 use Rattle.std.proofs.lemmas.Bool.{eqb-true}
-use Rattle.cs_types.specs.declared.task.Task.{Task}
-use Rattle.cs_types.specs.Room.{has_pid, with_task}
+use Rattle.cs_types.specs.Room.{has_pid}
 use Rattle.cs_types.proofs.Foremost.{find_passes}
 use Rattle.cs_types.proofs.Tasks.{found_again}
 use Rattle.task_table.specs.Table.{Table}
-use Rattle.core_lanes.specs.declared.queue.SiblingQueue.{Ghosts}
-use Rattle.core_lanes.specs.declared.lanes.Core.{Core}
 use Rattle.core_lanes.specs.Queued.{HasOwnStamp}
-use Rattle.core_lanes.specs.Lanes.{room_by, IsFit, AreHeld, AreHeldBut, Replaces, FitsIn, Knows}
-use Rattle.core_lanes.specs.Numbers.{numbers_by}
-use Rattle.core_lanes.specs.Changes.{Kept, identity_of, kept_of, Changes}
+use Rattle.core_lanes.specs.Lanes.{IsFit, AreHeld, AreHeldBut}
 use Rattle.core_lanes.proofs.Alike.{queued_at-alike}
 use Rattle.core_lanes.proofs.Queues.{others-replaced}
-use Rattle.core_lanes.proofs.Replaced.{is_of, own_stamp, agree-replaced, identities-replaced}
+use Rattle.core_lanes.proofs.Replaced.{is_of, own_stamp, agree-replaced, fits_known, changes_known}
 use Rattle.core_lanes.proofs.Stays.{found_in, as_many_bare}
 use Rattle.cs_types.proofs.Spots.{replaced_by}
 use Rattle.std.proofs.lemmas.List.{length-map}
 use Rattle.core_lanes.proofs.lanes.Core.change.Goals as goal
-
--- a task that is known fits in the place of the one with its pid
-fits : {Q : Type 0} {g : Ghosts Q} (both : Core Q g × Table) (task : Task) → Knows both task → FitsIn both task
-fits both task knows = record { apart = knows.known.apart; stamp = knows.stamp }
-
--- where it stands there, the room is the one with this task
-changes : {Q : Type 0} {g : Ghosts Q} (core now : Core Q g) (table after : Table) (task : Task) →
-    Knows (core, table) task → Replaces task (core, table) (now, after) → Changes (core, table) (now, after) (λ room. with_task room task)
-changes core now table after task knows replaced =
-    let apart = knows.known.apart in
-    record {
-      room = λ beside i. room_by beside (replaced.bare i) (replaced.table i);
-      numbers = λ i. numbers_by (replaced.bare i) (replaced.table i);
-      stays = record {
-        agree = λ agree. replaced.agree;
-        kept = (λ i. record {
-          siblings = as_many_bare core now replaced.bare i;
-          limit = (replaced.table i).limit;
-          identities = map identity_of (replaced.table i).tasks;
-        })
-            ∙ ap (λ (identities : List (ℕ × ℕ)). let kept : Kept = record (kept_of (core, table)) { identities = identities } in kept)
-            (identities-replaced task apart.old table.tasks apart.agree.table.rising apart.there knows.known.cookie);
-      };
-    }
 
 pub returns-then-is_alike-clause-changes : goal.returns-then-is_alike-clause-changes
 returns-then-is_alike-clause-changes g c =
@@ -59,10 +30,10 @@ returns-then-is_alike-clause-changes g c =
     (agree.held cpu queue at)
     ) in
     let core = c.args.self.now in
-    changes core core before c.change.new.self task c.requires (record {
+    changes_known core core before c.change.new.self task c.requires (record {
       table = changed;
       bare = refl;
-      agree = agree-replaced core core before c.change.new.self task (fits (core, before) task c.requires) refl changed c.change.ensures.sound held;
+      agree = agree-replaced core core before c.change.new.self task (fits_known (core, before) task c.requires) refl changed c.change.ensures.sound held;
     })
 
 pub take-requires : goal.take-requires
@@ -104,10 +75,10 @@ returns-clause-changes g c =
     let before = c.args.table.now in
     let same = c.put.ensures.queues.bare ∙ c.take.ensures.queues.bare in
     let changed = c.change-2.ensures.changed in
-    changes core c.put.new.self before c.change-2.new.self c.args.task c.requires (record {
+    changes_known core c.put.new.self before c.change-2.new.self c.args.task c.requires (record {
       table = changed;
       bare = same;
-      agree = agree-replaced core c.put.new.self before c.change-2.new.self c.args.task (fits (core, before) c.args.task c.requires) same changed c.change-2.ensures.sound c.put.ensures.queues.held;
+      agree = agree-replaced core c.put.new.self before c.change-2.new.self c.args.task (fits_known (core, before) c.args.task c.requires) same changed c.change-2.ensures.sound c.put.ensures.queues.held;
     })
 
 pub returns-clause-counted : goal.returns-clause-counted

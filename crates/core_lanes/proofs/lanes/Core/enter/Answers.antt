@@ -1,7 +1,6 @@
-use Rattle.std.proofs.Common.{arith, ◌≤◌, ◌+◌, ◌*◌, Option, set, length-set, true, Some, None, Bor, ◌≡◌, ℕ, ◌<◌, [], cond, List, inl, inr, refl, sym, subst, ap, ◌∙◌, map, length}
+use Rattle.std.proofs.Common.{arith, ◌≤◌, ◌+◌, ◌*◌, Option, set, length-set, true, Some, Bor, ◌≡◌, ℕ, ◌<◌, [], cond, List, inl, inr, refl, sym, subst, ap, ◌∙◌, map, length}
 use Rattle.std.specs.Prelude.{◌==◌, All, IsTrue, find, slice_get, option_copied}
 use Rattle.std.specs.Global.{Vec}
-use Rattle.std.specs.Option.{IsSome}
 use Rattle.std.proofs.lemmas.Bool.{cases_Bool, cond-true, cond-false, eqb-true, eqb-false, ne_eqb}
 use Rattle.cs_types.proofs.Foremost.{find_passes}
 use Rattle.cs_types.proofs.Spots.{replaced_by}
@@ -20,6 +19,7 @@ use Rattle.core_lanes.specs.Changes.{Kept, kept_of}
 use Rattle.core_lanes.proofs.Queues.{others-replaced, others-absent, absent_from, off_elsewhere}
 use Rattle.core_lanes.proofs.AtHome.{held_home, bare_home}
 use Rattle.core_lanes.proofs.Replaced.{is_of, own_stamp}
+use Rattle.core_lanes.proofs.Lists.{is_there, is_it}
 use Rattle.core_lanes.proofs.Stays.{some_beside, queue_of, queue_at, stamp_next}
 use Rattle.core_lanes.proofs.lanes.Core.enter.Given.{Over}
 use Rattle.core_lanes.proofs.lanes.Core.enter.Goals as goal
@@ -55,16 +55,6 @@ module _ {Q : Type 0} {g : Ghosts Q} (core : Core Q g) (before : Table) (task ol
       subst (λ qs. g.holds queue before.limit qs)
       (cond-false (task.home == old.home) [] (queued_at before.tasks task.home) (ne_eqb task.home old.home other) ∙ sym (others_stay task.home other))
       (away.held task.home queue at)
-
-is_there : (found : Option (Bor Task)) (task : Task) → option_copied found ≡ Some task → IsSome found
-is_there None task is = absurd cc
-is_there (Some found) task is = refl
-
--- the one that is found is it
-is_it : (found : Option (Bor Task)) (entered : Bor Task) (task : Task) → found ≡ Some entered → option_copied found ≡ Some task → task ≡ entered.now
-is_it found entered task is copied =
-    let same : Some entered.now ≡ Some task = sym (ap option_copied is) ∙ copied in
-    cc
 
 -- ---- the task as the table has it
 

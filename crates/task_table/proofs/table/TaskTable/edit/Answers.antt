@@ -5,7 +5,7 @@ use Rattle.cs_types.specs.Room.{has_pid}
 use Rattle.cs_types.specs.declared.task.Task.{Task}
 use Rattle.task_table.specs.Edit.{edited as edit_task}
 use Rattle.task_table.specs.declared.edit.Edit.{Edit}
-use Rattle.task_table.specs.declared.edit.Edit.TheVariants.{Occupation, Cookie, Home, Vtime, Used}
+use Rattle.task_table.specs.declared.edit.Edit.TheVariants.{Occupation, Cookie, Home, Vtime, Used, Asleep, Queued}
 use Rattle.task_table.specs.Table.{Table}
 use Rattle.task_table.specs.Inside.{totals_of, IsSlotOf, IsKept}
 use Rattle.task_table.proofs.Rising.{changed_none}
@@ -20,6 +20,8 @@ line_kept (Cookie cookie) task = refl
 line_kept (Home home from to stamp) task = refl
 line_kept (Vtime vtime) task = refl
 line_kept (Used used) task = refl
+line_kept Asleep task = refl
+line_kept (Queued cpu vtime deadline stamp) task = refl
 
 pub index_mut-requires : goal.index_mut-requires
 index_mut-requires c =
