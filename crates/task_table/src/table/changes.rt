@@ -287,7 +287,6 @@ impl TaskTable {
         let task = self.slots.remove(entry.key);
         self.threads.remove(entry.tgid);
         self.processes.remove(entry.pgid);
-        self.places.note(&self.entries, position);
         Some((task, entry.forced))
     }
 }
