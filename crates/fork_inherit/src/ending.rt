@@ -1,6 +1,7 @@
 //! The end of a task.
 
-ghost use Rattle.std.specs.Prelude.{◌≡◌, ℕ, ◌==◌, filter, find, not, false, Some, IfSome, IsSomeAnd, OnOk, OnErr, if◌then◌else◌};
+ghost use Rattle.std.specs.Prelude.{◌≡◌, ℕ, ◌==◌, ◌&&◌, IsTrue, filter, find, not, false, Some, IfSome, IsSomeAnd, OnOk, OnErr, if◌then◌else◌};
+ghost use Rattle.std.specs.List.{list_any};
 ghost use Rattle.cs_types.specs.declared.task.Task.{Task as SomeTask};
 ghost use Rattle.cs_types.specs.Room.{RoomState, has_pid};
 ghost use Rattle.cs_types.specs.Step.{has_threads};
@@ -18,15 +19,34 @@ use thiserror::Error;
 #[error("the task leads a thread group that has another member")]
 pub struct HasThreads;
 
+/// Whether the thread group has its leader, and by the count of its span no other. The others of a group need not be
+/// looked for then. `false` may come of a group that has no other too.
+fn is_alone(table: &TaskTable, leader: Pid) -> bool
+    ensures { IsTrue result → list_any (λ (task : SomeTask). (task.spec.tgid == leader) && not (has_pid leader task)) table.now.tasks ≡ false }
+{
+    if table.most_in(Group::Threads(leader)) != 1 {
+        return false;
+    }
+    match table.find(leader) {
+        Some(task) => task.spec.tgid == leader,
+        None => false,
+    }
+}
+
 /// Whether the task leads a thread group that has another member.
 pub fn has_threads(table: &TaskTable, task: &Task) -> bool
     ensures { (room : RoomState) → room.tasks ≡ table.now.tasks → result ≡ has_threads room task.now }
 {
     let leader = task.spec.pid;
-    task.spec.tgid == leader
-        && table
-            .members(Group::Threads(leader))
-            .any(|other| other.spec.pid != leader)
+    if task.spec.tgid != leader {
+        return false;
+    }
+    if is_alone(table, leader) {
+        return false;
+    }
+    table
+        .members(Group::Threads(leader))
+        .any(|other| other.spec.pid != leader)
 }
 
 /// The task with the pid, which is asleep and leads no thread group that has another member, is no longer among

@@ -7,8 +7,8 @@ use Rattle.cs_types.specs.declared.task.Task.{Task}
 use Rattle.fork_inherit.proofs.Ends.{any_of_kept}
 use Rattle.fork_inherit.proofs.ending.has_threads.Goals as goal
 
-pub returns-then-task-leader : goal.returns-then-task-leader
-returns-then-task-leader c room same =
+pub returns : goal.returns
+returns c room same =
     let leader = c.args.task.now.spec.pid in
     let tasks = c.args.table.now.tasks in
     let is_member : Task → _ = λ (task : Task). eqb task.spec.tgid leader in
@@ -17,4 +17,13 @@ returns-then-task-leader c room same =
     any_from_yields_List is_other _ _ c.any.result c.any.ensures.ran walk (λ x b q k. search (rules, tests))
     ∙ any_of_kept is_member is_other tasks
     ∙ ap (list_any (λ task. is_member task && is_other task)) (sym same)
-    ∙ ap (λ b. b && list_any (λ task. is_member task && is_other task) room.tasks) (sym (eq-eqb _ _ c.if-task-leader.true))
+    ∙ ap (λ b. b && list_any (λ task. is_member task && is_other task) room.tasks) (sym (eq-eqb _ _ c.if-task-leader.false))
+
+pub returns-then-is_alone : goal.returns-then-is_alone
+returns-then-is_alone c room same =
+    let leader = c.args.task.now.spec.pid in
+    let is_member : Task → _ = λ (task : Task). eqb task.spec.tgid leader in
+    let is_other : Task → _ = λ (task : Task). not (eqb task.spec.pid leader) in
+    sym (c.is_alone.ensures c.if-is_alone.true)
+    ∙ ap (list_any (λ task. is_member task && is_other task)) (sym same)
+    ∙ ap (λ b. b && list_any (λ task. is_member task && is_other task) room.tasks) (sym (eq-eqb _ _ c.if-task-leader.false))
