@@ -312,24 +312,25 @@ module _ {slots : Slab Task} {entries : List Entry} {threads processes : List Sp
       let is : there.0 ≡ task = cc in
       (there.2 ∙ ap Some is, ap pid_of (sym is) ∙ there.3)
 
-  -- a task with the same line comes into its slot
-  pub kept_edited : {key pid : ℕ} (old now : Task) → IsSlotOf key pid entries tasks → get slots key ≡ Some old → now.spec ≡ old.spec →
+  -- a task with the same pid and groups comes into its slot
+  pub kept_edited : {key pid : ℕ} (old now : Task) → IsSlotOf key pid entries tasks → get slots key ≡ Some old →
+      now.spec.pid ≡ old.spec.pid → groups_of now ≡ groups_of old →
       IsKept (with_value slots key now) entries threads processes room limit (map (λ (other : Task). cond (has_pid pid other) now other) tasks)
-  kept_edited {key} {pid} old now slot in_slot spec =
+  kept_edited {key} {pid} old now slot in_slot same_pid same_groups =
       let there = found_in old slot in_slot in
       let entry = slot.entry in
       let position = slot.position in
       let it = sym (find_at pid position tasks slot.at) ∙ there.0 in
-      let has_now : now.spec.pid ≡ pid = ap (λ (s : TaskSpec). s.pid) spec ∙ there.1 in
+      let has_now : now.spec.pid ≡ pid = same_pid ∙ there.1 in
       let told : groups_told entry ≡ groups_of now =
       ap groups_told slot.is
       ∙ both_at groups_told groups_of entries tasks kept.groups position entry old (position_within pid position slot.at) it
-      ∙ ap (λ (s : TaskSpec). (s.tgid, s.pgid)) (sym spec) in
+      ∙ sym same_groups in
       let same : with_groups now entry ≡ entry = (λ i. record entry { tgid = (sym told i).0; pgid = (sym told i).1 }) in
       let at_now = subst (λ n. IsAt n position tasks) (sym has_now) slot.at in
       subst (λ n. IsKept (with_value slots key now) entries threads processes room limit (map (λ (other : Task). cond (has_pid n other) now other) tasks)) has_now
       (kept_set (with_value slots key now) entries position entry now
-      (grouped_alike now position old tasks kept.grouped at_now it (ap (λ (s : TaskSpec). (s.tgid, s.pid)) spec) (ap (λ (s : TaskSpec). (s.pgid, s.pid)) spec))
+      (grouped_alike now position old tasks kept.grouped at_now it (λ i. ((same_groups i).0, same_pid i)) (λ i. ((same_groups i).1, same_pid i)))
       at_now slot.is
       (subst (λ n. Updates slots (with_value slots key now) n (Some now)) (sym slot.slot) (Updates-with_value slots key now (rw in_slot refl)))
       (slab_len-with_value slots key old now in_slot) refl

@@ -142,9 +142,29 @@ impl TaskTable {
     }
 
     /// Puts the task in the position of the one with its pid, which it gives back. It has that one's total. `None` exactly where
-    /// there is none, and then nothing changes.
+    /// there is none, and then nothing changes. Mostly its groups stay, and then no entry is looked for.
     #[inline(always)]
     pub fn change(&mut self, task: Task) -> Option<Task>
+        ensures old { result ≡ find (has_pid task.spec.pid) self.old.tasks }
+        ensures changed { self.new ≡ record self.old { tasks = map (λ other. if has_pid task.spec.pid other then task else other) self.old.tasks } }
+        ensures absent { IfNone result (self.new ≡ self.old) }
+        ensures sound { IsSound self.new }
+    {
+        let Some(key) = slot_of(&self.slots, &self.entries, &self.places, task.spec.pid) else {
+            return None;
+        };
+        let old = self.slots[key];
+        if old.spec.tgid != task.spec.tgid || old.spec.pgid != task.spec.pgid {
+            return self.change_groups(task);
+        }
+        self.slots[key] = task;
+        Some(old)
+    }
+
+    /// The same where its groups may be others.
+    #[cold]
+    #[inline(never)]
+    fn change_groups(&mut self, task: Task) -> Option<Task>
         ensures old { result ≡ find (has_pid task.spec.pid) self.old.tasks }
         ensures changed { self.new ≡ record self.old { tasks = map (λ other. if has_pid task.spec.pid other then task else other) self.old.tasks } }
         ensures absent { IfNone result (self.new ≡ self.old) }

@@ -3,11 +3,12 @@ use Rattle.std.specs.Prelude.{is_some, vec_capacity}
 use Rattle.slab.specs.Slab.{with_value}
 use Rattle.cs_types.specs.Room.{has_pid}
 use Rattle.cs_types.specs.declared.task.Task.{Task}
+use Rattle.cs_types.specs.declared.task.TaskSpec.{TaskSpec}
 use Rattle.task_table.specs.Edit.{edited as edit_task}
 use Rattle.task_table.specs.declared.edit.Edit.{Edit}
 use Rattle.task_table.specs.declared.edit.Edit.TheVariants.{Occupation, Cookie, Home, Vtime, Used, Asleep, Queued}
 use Rattle.task_table.specs.Table.{Table}
-use Rattle.task_table.specs.Inside.{totals_of, IsSlotOf, IsKept}
+use Rattle.task_table.specs.Inside.{totals_of, groups_of, IsSlotOf, IsKept}
 use Rattle.task_table.proofs.Rising.{changed_none}
 use Rattle.task_table.proofs.Tables.{none_found}
 use Rattle.task_table.proofs.Kept.{kept_of, kept_again, seen_as, kept_seen, slot_seen, task_in, kept_edited, edited}
@@ -36,7 +37,8 @@ after : (c : goal.After-self-1) → IsKept (with_value c.self.inside.slots c.in-
     (map (λ (task : Task). if has_pid c.args.pid task then c.write.new.task else task) c.args.self.now.tasks)
 after c =
     kept_edited (kept_of _ _ _ _ _ _ _ c.self.view_is c.self.invariant) c.index_mut.result.now c.write.new.task (slot c) c.index_mut.ensures.value
-    (ap (λ (task : Task). task.spec) c.write.ensures ∙ line_kept c.args.edit c.index_mut.result.now)
+    (ap (λ (task : Task). task.spec.pid) c.write.ensures ∙ ap (λ (spec : TaskSpec). spec.pid) (line_kept c.args.edit c.index_mut.result.now))
+    (ap groups_of c.write.ensures ∙ ap (λ (spec : TaskSpec). (spec.tgid, spec.pgid)) (line_kept c.args.edit c.index_mut.result.now))
 
 pub invariant_of-self : goal.invariant_of-self
 invariant_of-self c = kept_again (after c)
