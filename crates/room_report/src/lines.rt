@@ -1,6 +1,6 @@
 //! The lines of the report. Each is put together without a sink, so that a sink gets it whole.
 
-ghost use Rattle.std.specs.Prelude.{◌≡◌};
+ghost use Rattle.std.specs.Prelude.{◌≡◌, []};
 ghost use Rattle.scenario_text.specs.Text.{line};
 ghost use Rattle.room_report.specs.Report.{clock_words, numbers_words, core_words, intervals_words, online_word, cpu_words, queued_word, task_words, ended_words, place_word, guard_words};
 
@@ -86,15 +86,15 @@ pub(crate) fn task_line(task: TaskView) -> Line
     line
 }
 
-pub(crate) fn ended_line(task: EndView) -> Line
-    ensures { result ≡ line (ended_words task) }
+/// The line of a task that ended, put on an empty one. That is lent, since to hand a line out copies it, and as many
+/// tasks may end as are forked.
+pub(crate) fn put_ended(on: &mut Line, task: EndView)
+    requires { on.old ≡ [] }
+    ensures { on.new ≡ line (ended_words task) }
 {
-    let mut line = Line::new();
-    line.named("ended", task.pid);
-    line.text(" ");
-    line.named("forced", task.forced);
-    line.text("\n");
-    line
+    on.pid("ended ", task.pid);
+    on.wide(" forced ", task.forced);
+    on.text("\n");
 }
 
 pub(crate) fn guard_line(index: u8, guard: GuardView) -> Line

@@ -12,8 +12,7 @@ ghost use Rattle.room_report.specs.Report.{core_lines, cpu_lines, task_lines, en
 
 use crate::entry::entry_text;
 use crate::lines::{
-    clock_line, core_line, cpu_line, ended_line, guard_line, intervals_line, numbers_line,
-    task_line,
+    clock_line, core_line, cpu_line, guard_line, intervals_line, numbers_line, put_ended, task_line,
 };
 use cs_outside::{Failed, Sink, write_all};
 use cs_types::Room;
@@ -108,7 +107,11 @@ pub(crate) fn write_ended<R: Room, K: Sink>(room: &R, sink: &mut K) -> Result<()
 {
     for index in 0..room.length() {
         match room.ended(index) {
-            Some(task) => write_all(sink, ended_line(task).as_bytes())?,
+            Some(task) => {
+                let mut line = Line::new();
+                put_ended(&mut line, task);
+                write_all(sink, line.as_bytes())?;
+            }
             None => return Ok(()),
         }
     }

@@ -1,7 +1,7 @@
 //! A line while it is put together. It lies on the stack and can take the longest entry, so it
 //! takes no memory and cannot fail, and a sink is given it whole.
 
-ghost use Rattle.std.specs.Prelude.{◌≡◌, ◌+◌, ◌≤◌, [], ◌∷◌, ◌++◌, length};
+ghost use Rattle.std.specs.Prelude.{◌≡◌, ◌+◌, ◌≤◌, [], ◌∷◌, ◌++◌, length, decimal};
 ghost use Rattle.scenario_text.specs.Words.{policy_word, made_words, run_word};
 ghost use Rattle.scenario_text.specs.Text.{line_bytes, spaced, entry_text};
 
@@ -92,6 +92,26 @@ impl Line {
         ensures longest { length self.new ≤ length self.old + 10 }
     {
         self.count = self.places.run(self.count, pid);
+    }
+
+    /// What stands before a pid, and the pid.
+    #[inline(always)]
+    pub fn pid(&mut self, before: &str, pid: Pid)
+        requires { length self.old + length before.now + 10 ≤ line_bytes }
+        ensures text { self.new ≡ self.old ++ (before.now ++ decimal pid) }
+        ensures longest { length self.new ≤ length self.old + length before.now + 10 }
+    {
+        self.count = self.places.pid(self.count, before, pid);
+    }
+
+    /// What stands before a number of 64 bits, and that number.
+    #[inline(always)]
+    pub fn wide(&mut self, before: &str, number: u64)
+        requires { length self.old + length before.now + 20 ≤ line_bytes }
+        ensures text { self.new ≡ self.old ++ (before.now ++ decimal number) }
+        ensures longest { length self.new ≤ length self.old + length before.now + 20 }
+    {
+        self.count = self.places.wide(self.count, before, number);
     }
 
     /// A word, and the number that it names.

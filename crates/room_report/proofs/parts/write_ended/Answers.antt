@@ -8,13 +8,13 @@ pub returns-in_err-write_all-in-Some-clause-prefix : goal.returns-in_err-write_a
 returns-in_err-write_all-in-Some-clause-prefix g c =
     reached_prefix _ _ _ _ _ _ _ _ c.loop-index.invariant.reached
     (ended_next (moment_of (g.R.Room.opening c.args.room.now) (g.R.Room.history c.args.room.now)) c.loop-index.index c.in-Some.task c.in-Some.ensures)
-    (c.as_bytes.ensures ∙ c.ended_line.ensures) c.write_all.ensures.prefix
+    (c.as_bytes.ensures ∙ c.put_ended.ensures) c.write_all.ensures.prefix
 
 pub loop-index-preserved : goal.loop-index-preserved
 loop-index-preserved g c = record {
   reached = reached_more _ _ _ _ _ _ _ _ c.loop-index.invariant.reached
       (ended_next (moment_of (g.R.Room.opening c.args.room.now) (g.R.Room.history c.args.room.now)) c.loop-index.index c.in-Some.task c.in-Some.ensures)
-      (c.as_bytes.ensures ∙ c.ended_line.ensures) c.in_ok-write_all-in-Some.ensures.ok;
+      (c.as_bytes.ensures ∙ c.put_ended.ensures) c.in_ok-write_all-in-Some.ensures.ok;
   faultless = c.in_ok-write_all-in-Some.ensures.faultless ∙ c.loop-index.invariant.faultless;
 }
 
