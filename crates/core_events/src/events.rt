@@ -238,12 +238,13 @@ fn wake<Q: SiblingQueue, G: Guard, L: Ledger>(
     ensures makes { Makes state.old state.new (Event.Wake pid) result }
     ensures counted { ComparesForEvent state.old (Event.Wake pid) steps.old steps.new }
 {
-    let Some(mut task) = task_of(&state.tasks, pid) else {
+    let Some(task) = state.tasks.find(pid) else {
         return Reply::NoTask;
     };
     if task.queued {
         return Reply::Awake;
     }
+    let mut task = *task;
     rehome(&state.core, &mut task);
     wake_at_home(&mut state.core, &mut state.tasks, task, state.clock, steps);
     Reply::Woken(task.home)

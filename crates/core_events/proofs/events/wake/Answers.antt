@@ -6,6 +6,7 @@ use Rattle.cs_types.specs.declared.reply.Reply.TheVariants.{Woken, NoTask, Awake
 use Rattle.cs_types.specs.Room.{RoomState, is_online, lowest_online}
 use Rattle.cs_types.specs.Queueing.{moved_to, rehomed, queue_at_home}
 use Rattle.cs_types.specs.Step.{Stepped, wake}
+use Rattle.cs_types.proofs.Tasks.{found_again}
 use Rattle.core_lanes.specs.Lanes.{room_of}
 use Rattle.core_lanes.proofs.Stays.{found_in, some_beside}
 use Rattle.core_tasks.specs.State.{beside_of, both, room_with, state_numbers}
@@ -24,8 +25,8 @@ rehome-requires g c =
     let low = low_times c.args.state.now c.requires.ready.time in
     let found = sym c.in-Some.ensures.task in
     record {
-      home = (fits_found (both c.args.state.now) c.args.pid c.in-Some.task c.requires.ready.sound.agree found).home;
-      vtime = found_in (λ (t : Task). t.vtime < 2 ^ 100) c.args.pid c.args.state.now.tasks.tasks c.in-Some.task low.vtimes found;
+      home = (fits_found (both c.args.state.now) c.args.pid c.in-Some.task.now c.requires.ready.sound.agree found).home;
+      vtime = found_in (λ (t : Task). t.vtime < 2 ^ 100) c.args.pid c.args.state.now.tasks.tasks c.in-Some.task.now low.vtimes found;
       leasts = low.leasts;
     }
 
@@ -37,17 +38,17 @@ kept room task =
 pub wake_at_home-requires : goal.wake_at_home-requires
 wake_at_home-requires g c =
     let state = c.args.state.now in
-    let task = c.in-Some.task in
+    let task = c.in-Some.task.now in
     let is = subst (λ (t : Task). t ≡ record task { home = t.home; vtime = t.vtime }) (sym (c.rehome.ensures.rehomed some_beside state.tasks)) (kept (room_of some_beside (both state)) task) in
     let fit = fits_found (both state) c.args.pid task c.requires.ready.sound.agree (sym c.in-Some.ensures.task) in
-    may_wake state.clock (both state) c.rehome.new.task task c.requires.ready.sound.agree c.in-Some.ensures.there c.if-task.false
+    may_wake state.clock (both state) c.rehome.new.task task c.requires.ready.sound.agree (found_again c.args.pid state.tasks.tasks task (sym c.in-Some.ensures.task)) c.if-task.false
     (is ∙ (λ i. record task { home = c.rehome.new.task.home; queued = (sym is i).queued; vtime = c.rehome.new.task.vtime })) c.rehome.ensures.within fit.policy
     c.requires.ready.time.clock (omega (arith, c.requires.ready.spares.stamps)) (omega (arith, c.requires.ready.spares.touches))
 
 pub returns-clause-makes : goal.returns-clause-makes
 returns-clause-makes g c =
     let old = c.args.state.now in
-    let task = c.in-Some.task in
+    let task = c.in-Some.task.now in
     let queued = c.wake_at_home.ensures.touches in
     record {
       step = λ intervals.
@@ -71,7 +72,7 @@ returns-in_default-clause-makes g c = leaves_all c.args.state.now (Wake c.args.p
 pub returns-then-task-clause-makes : goal.returns-then-task-clause-makes
 returns-then-task-clause-makes g c = leaves_all c.args.state.now (Wake c.args.pid) Awake (λ intervals. untouched (state_numbers c.args.state.now)) (λ intervals.
     let room = room_with intervals c.args.state.now in
-    sym (cond-true c.in-Some.task.queued (record { reply = Awake; room = room }) _ c.if-task.true) ∙ ap (wake room) c.in-Some.ensures.task)
+    sym (cond-true c.in-Some.task.now.queued (record { reply = Awake; room = room }) _ c.if-task.true) ∙ ap (wake room) c.in-Some.ensures.task)
 
 pub returns-clause-counted : goal.returns-clause-counted
 returns-clause-counted g c = for_event g.met.Q.SiblingQueue.rises 1 c.args.state.now (Wake c.args.pid) _ _ (omega arith) c.wake_at_home.ensures.counted
