@@ -147,6 +147,7 @@ impl<G: Guard> Guards<G> {
 
     /// Whether the active guards allow the caller with the one real user id to access the target with the
     /// other. They are asked in the order of loading, up to the first that refuses.
+    #[inline(always)]
     pub(crate) fn allow(&mut self, from: u32, to: u32) -> bool
         requires asked { All (λ guard. guard.asked < 2 ^ 63) self.old.guards.all }
         ensures decision { result ≡ list_all (λ index. not (refuses (guard_of self.old.guards index) (from, to))) self.old.guards.active }
