@@ -33,6 +33,10 @@ AsksOnce {g = g} cpu both Answer before after = AsksOf g.most_compared cpu both.
 abbrev pub KeepsFirst : {Q : Type 0} {g : Ghosts Q} → ℕ → Core Q g × Table → First → Type 0
 KeepsFirst cpu both first = (beside : Beside) → let room = room_of beside both in first ≡ kept_in room (first_on room cpu)
 
+-- this leads the sibling alone
+abbrev pub LeadsAlone : {Q : Type 0} {g : Ghosts Q} → ℕ → Core Q g × Table → First → Type 0
+LeadsAlone cpu both now = (beside : Beside) → now ≡ lead_in (room_of beside both) (cpu ∷ [])
+
 -- where the one first leads some siblings, the other leads these and this sibling
 abbrev pub LeadsWith : {Q : Type 0} {g : Ghosts Q} → ℕ → Core Q g × Table → First → First → Type 0
 LeadsWith cpu both before now = (beside : Beside) (order : List ℕ) → let room = room_of beside both in

@@ -8,7 +8,7 @@ ghost use Rattle.cs_types.specs.Order.{first_of};
 ghost use Rattle.core_lanes.specs.Queued.{queued_among, with_cookie, MaySearch};
 ghost use Rattle.core_pick.specs.Choice.{firsts_of, MayCount};
 ghost use Rattle.core_pick.specs.Comparisons.{Compares};
-ghost use Rattle.core_pick.specs.Questions.{MayAsk, AsksOnce, AsksOf, KeepsFirst, LeadsWith, GetsCounted, MayAskPart, AsksPart, AsksAll, GetAll};
+ghost use Rattle.core_pick.specs.Questions.{MayAsk, AsksOnce, AsksOf, KeepsFirst, LeadsAlone, LeadsWith, GetsCounted, MayAskPart, AsksPart, AsksAll, GetAll};
 
 use crate::choice::{Choice, Counts};
 use crate::lead::{First, first_kept};
@@ -112,6 +112,19 @@ pub fn first_at<Q: SiblingQueue, L: Ledger>(
     first_kept(first.as_ref(), core.lanes[cpu as usize].snapshot)
 }
 
+/// The lead of one sibling alone, where this is what is kept of its first: that, and idle where it is offline.
+#[inline(always)]
+fn lead_alone<Q: SiblingQueue>(core: &Core<Q>, cpu: Cpu, first: &First) -> First
+    requires { cpu < length core.now.lanes.items }
+    ensures { (table : Table) → KeepsFirst cpu (core.now, table) first.now → LeadsAlone cpu (core.now, table) result }
+{
+    if core.is_online(cpu) {
+        *first
+    } else {
+        First::idle()
+    }
+}
+
 /// The lead of some siblings and of one more, where this is what is kept of its first. One that is offline puts up
 /// nothing.
 #[inline(always)]
@@ -169,7 +182,7 @@ pub fn ask<Q: SiblingQueue, L: Ledger>(
     ensures counted { Compares (core.now, table.now) (λ most. steps.new + most ≤ steps.old + length core.now.lanes.items * most) }
 {
     firsts[own as usize] = first.choice;
-    let offer = lead_with(core, own, First::idle(), *first);
+    let offer = lead_alone(core, own, first);
     let count = core.lanes.len() as u8;
     let behind = ask_from(firsts, core, table, own + 1, count, offer, steps);
     let lead = ask_from(firsts, core, table, 0, own, behind, steps);

@@ -68,7 +68,7 @@ returns-clause-asks g c = record {
       let whole : own - 0 ≡ own = omega arith in
       let count : c.len-count.result ≡ length room.siblings = c.len-count.ensures ∙ c.args.core.now.lanes.ok.0 ∙ sym (length-map c.args.core.now.lanes.items lane_state) in
       let from : suc (c.len-count.result - (own + 1)) ≡ length room.siblings - own = omega (arith, count, c.requires.may.at.cpu, length-map c.args.core.now.lanes.items lane_state) in
-      let offer = c.lead_with-offer.ensures c.args.table.now c.requires.may c.requires.first beside [] c.idle.ensures in
+      let offer = c.lead_alone-offer.ensures c.args.table.now c.requires.first beside in
       ap (λ (first : First). first.choice.cookie) (c.ask_from-lead.ensures.asks.lead beside (own ∷ range_with_len (own + 1) (c.len-count.result - (own + 1))) (c.ask_from-behind.ensures.asks.lead beside (own ∷ []) offer))
       ∙ ap cookie_of ((λ i. lead_of room (range_with_len own (from i) ++ range_with_len 0 (whole i))) ∙ lead_of-all room own);
 }
