@@ -20,6 +20,7 @@ pub mod Beginnings
 pub mod Building
 pub mod Plain
 pub mod UsualLines
+pub mod UsualSteps
 pub mod Again
 pub mod Scenarios
 pub mod Replies

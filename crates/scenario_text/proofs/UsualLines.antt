@@ -1,16 +1,17 @@
 -- UsualLines: a text that begins with the line of a step, put together from what was found at its front.
-use Rattle.std.proofs.Common.{w32, w64, FitsSigned, ℤ, pos, negsuc, zero, suc, ◌-ℤ◌, ◌≡◌, ℕ, ◌≤◌, ◌<◌, ◌+◌, ◌-◌, ◌^◌, true, eqb, List, [], ◌∷◌, ◌++◌, length, take, drop, get_or, Some, Ok, Err, false, refl, sym, ap, subst, ◌∙◌, append_assoc, take_all, take-suc, zero-le, arith}
-use native.Mathlib.Numerals.{unary_clauses}
-use mir.Val.{to_z, of_z}
+use Rattle.std.proofs.Common.{w32, ℤ, zero, suc, ◌≡◌, ℕ, ◌≤◌, ◌<◌, ◌+◌, ◌-◌, ◌^◌, true, eqb, List, [], ◌∷◌, ◌++◌, length, take, drop, get_or, Some, Ok, Err, false, refl, sym, ap, subst, ◌∙◌, append_assoc, take_all, zero-le, arith}
+use mir.Val.{to_z}
 use Rattle.std.specs.Borrow.{Bor}
-use Rattle.std.specs.Prelude.{codes, decimal, MatchResult}
+use Rattle.std.specs.Prelude.{◌&&◌, ◌||◌, not, codes, decimal, MatchResult}
+use Rattle.std.specs.Char.{is_ascii_digit}
 use Rattle.std.specs.Fmt.{signed_decimal}
 use Rattle.std.specs.List.{AllByRecursion, join_with_byte}
 use Rattle.std.specs.Str.{all_ascii_digits}
 use Rattle.std.specs.Result.{result_ok}
 use Rattle.std.proofs.lemmas.Fmt.{decimal_digit}
-use Rattle.std.proofs.lemmas.Int.{to_z-of_z, to_z_pos}
-use Rattle.std.proofs.lemmas.List.{length-drop, take-append-drop}
+use Rattle.std.proofs.lemmas.Int.{to_z_pos}
+use Rattle.std.proofs.lemmas.List.{length-drop, take-append-drop, take-take}
+use Rattle.std.proofs.lemmas.Bool.Decides.{nat_tests}
 use Rattle.std.proofs.lemmas.List.Splits.{slice_split_at, join_with_byte-slice_split}
 use Rattle.cs_types.specs.declared.event.Actor.{Actor}
 use Rattle.cs_types.specs.declared.event.Actor.TheVariants.{Sibling, Caller, End}
@@ -18,7 +19,7 @@ use Rattle.cs_types.specs.declared.task.Policy.{Policy}
 use Rattle.cs_types.specs.declared.event.Event.{Event}
 use Rattle.cs_types.specs.declared.event.Event.TheVariants.{Turn, Resched, Block, Exit, Tick, Wake, Advance, Fork, Prctl, SetSched, Offline, Online, Load, Unload}
 use Rattle.cs_types.specs.declared.event.Step.{Step}
-use Rattle.cs_types.specs.Scenario.{IsWithin, IsPid, IsPolicy, IsStep}
+use Rattle.cs_types.specs.Scenario.{IsWithin, IsPolicy, IsStep}
 use Rattle.scenario_text.specs.declared.fault.BadKind.{BadKind}
 use Rattle.scenario_text.specs.declared.fault.BadKind.TheVariants.{Number}
 use Rattle.scenario_text.specs.declared.head.Head.{Head}
@@ -30,7 +31,7 @@ use Rattle.scenario_text.specs.Text.{spaced, line, step_words}
 use Rattle.scenario_text.specs.Grammar.{value, is_canonical, policy}
 use Rattle.scenario_text.specs.Faults.{pieces, lines_in}
 use Rattle.scenario_text.specs.Reading.{◌>>=◌, Contents, place_after, Read, line_at, line_check, next_of, usable, IsHead, BeginsStep, BeginsActor, BeginsEvent, BeginsAsk, BeginsPolicy, BeginsNumber, BeginsTarget, policy_value, lent, texts, line_of}
-use Rattle.scenario_text.proofs.Numbers.{digits_are, negated}
+use Rattle.scenario_text.proofs.Numbers.{digits_are}
 use Rattle.scenario_text.proofs.Fields.{behind_first, policy_is}
 use Rattle.scenario_text.proofs.Cuts.{has_piece, line_at-lines_in, lent_is}
 use Rattle.scenario_text.proofs.Texts.{IsPlain, words_in-spaced, spaced_lacks, all_lack}
@@ -82,13 +83,14 @@ module _ (head : Head) (plan : Contents) (lines rest : List (List Word)) where
 
 -- ---- as the code finds it
 
--- two texts that are alike so far are alike one byte further
-pub more_alike : (text first : List ℕ) (count : ℕ) → count < length first → length first ≤ length text → take count text ≡ take count first → get_or text count 0 ≡ get_or first count 0 → take (count + 1) text ≡ take (count + 1) first
-more_alike text first count some short alike same = simp unary_clauses
-    (take-suc text count 0 (omega arith)
-    ∙ ap (λ (bytes : List ℕ). bytes ++ get_or text count 0 ∷ []) alike
-    ∙ ap (λ (byte : ℕ). take count first ++ byte ∷ []) same
-    ∙ sym (take-suc first count 0 some))
+-- the front of a text is canonical where its first byte is a digit from 1 on
+nonzero_first : (byte len : ℕ) → 49 ≤ byte → byte ≤ 57 → (is_ascii_digit byte && (eqb len 1 || not (eqb byte 48))) ≡ true
+nonzero_first byte len low high = grind (arith, nat_tests)
+
+pub front_canonical : (text : List ℕ) (count : ℕ) → 1 ≤ count → 1 ≤ length text → 49 ≤ get_or text 0 0 → get_or text 0 0 ≤ 57 → is_canonical (take count text) ≡ true
+front_canonical (byte ∷ rest) (suc count) some long low high = nonzero_first byte (suc (length (take count rest))) low high
+front_canonical text zero some long low high = absurd (omega arith)
+front_canonical [] count some long low high = absurd (omega arith)
 
 -- bytes that are cut at a separator
 cut_is : (separator : ℕ) (bytes first rest : List ℕ) → pieces separator bytes ≡ first ∷ pieces separator rest → bytes ≡ first ++ separator ∷ rest
@@ -123,21 +125,25 @@ last_policy_is text word rest (Ok p) said cut spelled is =
       spelled = cut_is 10 text word rest cut ∙ ap (λ (w : List ℕ). w ++ 10 ∷ rest) (says.0 ∙ ap policy_word same) ∙ sym (append_assoc (policy_word said) (10 ∷ []) rest);
     }
 
--- a digit before a line feed
-pub last_digit_is : (high n : ℕ) (text rest : List ℕ) → n < 10 → n ≤ high → text ≡ (48 + n) ∷ 10 ∷ rest → BeginsNumber 0 high text n 10 rest
-last_digit_is high n text rest small most is =
-    record { within = (zero-le, most); spelled = is ∙ ap (λ (w : List ℕ). w ++ 10 ∷ rest) (sym (decimal_digit n small)) }
+-- a digit before a byte
+pub digit_before_is : (high n end : ℕ) (text rest : List ℕ) → n < 10 → n ≤ high → text ≡ (48 + n) ∷ end ∷ rest → BeginsNumber 0 high text n end rest
+digit_before_is high n end text rest small most is =
+    record { within = (zero-le, most); spelled = is ∙ ap (λ (w : List ℕ). w ++ end ∷ rest) (sym (decimal_digit n small)) }
 
 -- what stands behind the first bytes of a text is all of it
 whole : (n : ℕ) (text : List ℕ) → drop n text ≡ behind_first n text
 whole n text = sym (take_all (length text - n) (drop n text) (omega (arith, length-drop n text)))
 
--- a text that begins with these bytes
-pub behind_is : (text first : List ℕ) (count : ℕ) → count ≡ length first → take count text ≡ take count first → text ≡ first ++ behind_first count text
-behind_is text first count all alike =
-    sym (take-append-drop count text)
-    ∙ ap (λ (bytes : List ℕ). bytes ++ drop count text) (alike ∙ take_all count first (omega arith))
-    ∙ ap (λ (bytes : List ℕ). first ++ bytes) (whole count text)
+-- two words of four to eight bytes are the same where the first four bytes are, and the last four
+pub same_word : (front word : List ℕ) → length front ≡ length word → 4 ≤ length word → length word ≤ 8 → take 4 front ≡ take 4 word → take 4 (behind_first (length word - 4) front) ≡ take 4 (behind_first (length word - 4) word) → front ≡ word
+same_word front word long some few first last =
+    let n = length word - 4 in
+    let whole_last : (w : List ℕ) → length w ≡ length word → take 4 (behind_first n w) ≡ drop n w = λ w same. ap (take 4) (sym (whole n w)) ∙ take_all 4 (drop n w) (omega (arith, length-drop n w)) in
+    let first_of : (w : List ℕ) → take n (take 4 w) ≡ take n w = λ w. take-take n 4 w (omega arith) in
+    sym (take-append-drop n front)
+    ∙ ap (λ (bytes : List ℕ). bytes ++ drop n front) (sym (first_of front) ∙ ap (take n) first ∙ first_of word)
+    ∙ ap (λ (bytes : List ℕ). take n word ++ bytes) (sym (whole_last front long) ∙ last ∙ whole_last word refl)
+    ∙ take-append-drop n word
 
 -- the first byte of a text
 pub one_is : (text : List ℕ) (a : ℕ) → 1 ≤ length text → get_or text 0 0 ≡ a → text ≡ a ∷ behind_first 1 text
@@ -208,20 +214,7 @@ word_before : (word tail text behind rest : List ℕ) → text ≡ word ++ 32 �
 word_before word tail text behind rest is ends =
     is ∙ ap (λ (bytes : List ℕ). word ++ 32 ∷ bytes) ends ∙ sym (append_assoc word (32 ∷ tail) (10 ∷ rest))
 
--- a target fits 32 bits
-target_fits : (target : ℤ) → IsPid target → FitsSigned w32 target
-target_fits (pos n) is = record { sfits = omega (arith, is) }
-target_fits (negsuc n) is = record { sfits = omega (arith, is) }
-
--- a target below 0, or from 0 on, before a space
-pub below_is : (text digits rest : List ℕ) (n : ℕ) → text ≡ 45 ∷ digits → BeginsNumber 1 2147483648 digits n 32 rest → BeginsTarget text (to_z w32 (of_z w32 (to_z w64 (of_z w64 (pos 0 -ℤ to_z w64 n))))) rest
-below_is text digits rest zero is found = absurd (omega (arith, found.within.0))
-below_is text digits rest (suc n) is found =
-    let fits : IsPid (negsuc n) = omega (arith, found.within.1) in
-    let same = negated (suc n) found.within.0 (omega (arith, found.within.1)) in
-    let whole : suc n - 1 ≡ n = omega arith in
-    rw (same, whole, to_z-of_z w32 (negsuc n) (target_fits (negsuc n) fits)) (record { is = fits; spelled = is ∙ ap (λ (bytes : List ℕ). 45 ∷ bytes) found.spelled })
-
+-- a target from 0 on, before a space
 pub above_is : (text rest : List ℕ) (n : ℕ) → BeginsNumber 0 2147483647 text n 32 rest → BeginsTarget text (to_z w32 n) rest
 above_is text rest n found =
     let small : n < 2 ^ 31 = omega (arith, found.within.1) in
@@ -229,15 +222,15 @@ above_is text rest n found =
 
 -- the arguments of a call, which end the line
 pub ask_is : (cmd scope addr : ℕ) (target : ℤ) (text asked aimed scoped rest : List ℕ) → BeginsNumber 0 4294967295 text cmd 32 asked → BeginsTarget asked target aimed → BeginsNumber 0 4294967295 aimed scope 32 scoped →
-    BeginsNumber 0 18446744073709551615 scoped addr 10 rest → BeginsAsk text (record { cmd = cmd; pid = to_z w32 (of_z w32 target); scope = scope; addr = addr }) rest
+    BeginsNumber 0 18446744073709551615 scoped addr 10 rest → BeginsAsk text (record { cmd = cmd; pid = target; scope = scope; addr = addr }) rest
 ask_is cmd scope addr target text asked aimed scoped rest first second third fourth =
     let last = decimal scope ++ 32 ∷ decimal addr in
     let later = signed_decimal target ++ 32 ∷ last in
     let ends = word_before (decimal cmd) later text asked rest first.spelled (word_before (signed_decimal target) last asked aimed rest second.spelled (word_before (decimal scope) (decimal addr) aimed scoped rest third.spelled fourth.spelled)) in
-    rw (to_z-of_z w32 target (target_fits target second.is)) (record {
+    record {
       is = record { cmd = omega (arith, first.within.1); pid = second.is; scope = omega (arith, third.within.1); addr = omega (arith, fourth.within.1) };
       spelled = ends ∙ sym (append_assoc (decimal cmd ++ 32 ∷ later) (10 ∷ []) rest);
-    })
+    }
 
 -- a number that ends the line behind a word
 pub behind_word : (word text front rest : List ℕ) (n : ℕ) → text ≡ word ++ 32 ∷ front → front ≡ decimal n ++ 10 ∷ rest → text ≡ line (word ∷ decimal n ∷ []) ++ rest

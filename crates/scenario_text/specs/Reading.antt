@@ -409,6 +409,12 @@ pub record BeginsNumber (low high : ℕ) (text : List ℕ) (number end : ℕ) (r
   pub within : IsWithin low high number
   pub spelled : text ≡ decimal number ++ end ∷ rest
 
+-- these steps, and the lines left, become more steps and fewer lines, since the lines of steps are taken one by one
+pub data TakesSteps (siblings : ℕ) (before : List Step) (lines : List (List Word)) : List Step → List (List Word) → Type 0 where
+  taken_none : TakesSteps siblings before lines before lines
+  taken_more : {steps : List Step} {left rest : List (List Word)} (step : Step) → TakesSteps siblings before lines steps left → length steps < 100000 → IsStep siblings step →
+      line_at left ≡ Ok (step_words step, rest) → TakesSteps siblings before lines (steps ++ step ∷ []) rest
+
 -- and with the target of a call, which ends at a space
 pub record BeginsTarget (text : List ℕ) (target : ℤ) (rest : List ℕ) : Type 0 where
   pub is : IsPid target

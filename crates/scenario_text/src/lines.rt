@@ -1,18 +1,29 @@
 //! The lines of a text, taken one after the other, each as its words. It is separate so that what reads
 //! lines speaks of their words alone, and of no line feeds.
 
-ghost use Rattle.std.specs.Prelude.{◌≡◌, MatchOption, Ok};
-ghost use Rattle.cs_types.specs.Scenario.{IsWithin, IsStep};
-ghost use Rattle.scenario_text.specs.Text.{step_words};
+ghost use Rattle.std.specs.Prelude.{◌≡◌, [], ◌∷◌, ◌++◌, MatchResult};
+ghost use Rattle.cs_types.specs.Scenario.{IsWithin};
 ghost use Rattle.scenario_text.specs.Faults.{lines_in, is_nothing};
-ghost use Rattle.scenario_text.specs.Reading.{texts, Takes, line_at};
+ghost use Rattle.scenario_text.specs.Reading.{texts, Takes, TakesSteps, line_at};
 
-use crate::fault::BadKind;
+use crate::fault::{BadKind, ReadFault};
 use crate::pieces::cut;
+use crate::plan::MOST_STEPS;
 use crate::usual::usual_step;
 use crate::words::{Slots, words_of};
-use cs_types::Step;
+use cs_types::{Actor, Event, Step};
 use std::marker::Model;
+
+/// Pushes the step. It is made here, since then it is not copied before.
+#[inline(always)]
+fn push_step(steps: &mut Vec<Step>, actor: Actor, event: Event) -> Result<(), ReadFault>
+    ensures { MatchResult result
+        (λ _. steps.new.items ≡ steps.old.items ++ record { actor = actor; event = event } ∷ [])
+        (λ fault. fault ≡ ReadFault.OutOfMemory) }
+{
+    steps.push(Step { actor, event })?;
+    Ok(())
+}
 
 /// The lines of a text that are still to be taken.
 #[derive(Drop)]
@@ -51,17 +62,25 @@ impl<'a> Lines<'a> {
         words_of(line, slots)
     }
 
-    /// Takes the next line where it is one of the step lines that most lines are, with no search for the line's end.
-    /// Else nothing is taken.
-    #[inline(always)]
-    pub fn next_usual_step(&mut self, siblings: u8) -> Option<Step>
+    /// Takes the next lines into the steps, as long as each is one of the step lines that most lines are and the steps are
+    /// not too many. No line's end is searched for. It is a function of its own so that what its loop goes over stays in
+    /// registers.
+    #[inline(never)]
+    pub fn take_usual_steps(&mut self, siblings: u8, steps: &mut Vec<Step>) -> Result<(), ReadFault>
         requires { IsWithin 1 8 siblings }
-        ensures { MatchOption result (self.new ≡ self.old)
-            (λ step. IsStep siblings step × (line_at self.old ≡ Ok (step_words step, self.new))) }
+        ensures { MatchResult result (λ _. TakesSteps siblings steps.old.items self.old steps.new.items self.new)
+            (λ fault. fault ≡ ReadFault.OutOfMemory) }
     {
-        let (step, rest) = usual_step(self.rest, siblings)?;
+        let mut rest = self.rest;
+        while steps.len() < MOST_STEPS {
+            let Some((actor, event, behind)) = usual_step(rest, siblings) else {
+                break;
+            };
+            push_step(steps, actor, event)?;
+            rest = behind;
+        }
         self.rest = rest;
-        Some(step)
+        Ok(())
     }
 
     /// Whether no byte is left.

@@ -1,7 +1,7 @@
 //! Numbers, as words spell them: decimal digits with no leading 0, and no sign but the `-` of a negative
 //! number. It is separate since every form of a line but the last has them.
 
-ghost use Rattle.std.specs.Prelude.{◌≡◌, ◌⊎◌, ◌-◌, ◌^◌, ◌≤◌, length, take, true, false, MatchOption, MatchResult, IfOk, pos, neg_ℤ, ◌≤ℤ◌};
+ghost use Rattle.std.specs.Prelude.{◌≡◌, ◌⊎◌, ◌-◌, ◌^◌, ◌≤◌, length, take, slice_index, true, false, MatchOption, MatchResult, IfOk, pos, neg_ℤ, ◌≤ℤ◌};
 ghost use Rattle.std.specs.Str.{all_ascii_digits};
 ghost use Rattle.cs_types.specs.Scenario.{IsWithin};
 ghost use Rattle.scenario_text.specs.declared.fault.BadKind.TheVariants.{Number};
@@ -11,8 +11,8 @@ ghost use Rattle.scenario_text.specs.Reading.{signed_value, flag_value};
 use crate::fault::BadKind;
 use cs_types::Cpu;
 
-/// A number from here on is taken to have no further digit, since it might then have more than 64 bits.
-const LONG: u64 = 1_000_000_000_000_000_000;
+/// How many digits of a number are taken at once. No number of so many has more than 64 bits.
+pub(crate) const MOST_DIGITS: usize = 19;
 
 /// Whether the word begins with a digit, and with 0 only where it is `0`.
 pub(crate) fn is_canonical(word: &[u8]) -> bool
@@ -36,18 +36,27 @@ fn parse_digits(digits: &[u8]) -> Option<u64>
     Some(number)
 }
 
-/// The number that the digits at the front of the text spell, and how many they are. Of many digits the first 19 are
-/// taken, or a few more where the first are 0.
+/// The number that the digits at the front of the text spell, and how many they are. The first is one, and of many the
+/// first 19 are taken.
 #[inline(always)]
 pub(crate) fn first_digits(text: &[u8]) -> (u64, usize)
-    ensures inside { result.1 ≤ length text.now }
+    requires long { 19 ≤ length text.now }
+    requires digit { IsWithin 48 57 (slice_index text.now 0) }
+    ensures some { 1 ≤ result.1 }
+    ensures inside { result.1 ≤ 19 }
     ensures digits { all_ascii_digits (take result.1 text.now) ≡ true }
     ensures spelled { result.0 ≡ value (take result.1 text.now) }
+    ensures least { slice_index text.now 0 - 48 ≤ result.0 }
 {
-    let mut number: u64 = 0;
-    let mut count = 0;
-    while count < text.len() && text[count].is_ascii_digit() && number < LONG {
-        number = number * 10 + (text[count] - b'0') as u64;
+    let mut number = text[0] as u64 - b'0' as u64;
+    let mut count = 1;
+    while count < MOST_DIGITS {
+        // Of a byte that is no digit this is more than 9.
+        let digit = (text[count] as u64).wrapping_sub(b'0' as u64);
+        if digit > 9 {
+            break;
+        }
+        number = number * 10 + digit;
         count += 1;
     }
     (number, count)

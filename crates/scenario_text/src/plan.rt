@@ -16,7 +16,7 @@ const HEAD_LINES: usize = 3;
 const MOST_TEACHES: usize = 64;
 
 /// How many steps a scenario has at most.
-const MOST_STEPS: usize = 100_000;
+pub(crate) const MOST_STEPS: usize = 100_000;
 
 /// The tasks, the teach lines and the steps that are read.
 #[derive(Drop)]

@@ -16,7 +16,7 @@ use cs_types::{List, Scenario};
 use std::alloc::Global;
 
 /// The next line, which may follow those of the plan. Its words are put into the slots, in place of
-/// another line's, but for the step of a sibling.
+/// another line's.
 fn next_line<'a>(
     lines: &mut Lines<'a>,
     slots: &mut Slots<'a>,
@@ -27,11 +27,6 @@ fn next_line<'a>(
     requires few { HasFewLines (contents plan.now) }
     ensures { Takes (λ line. line) result lines.new (next_of head (contents plan.now) lines.old) }
 {
-    if let Some(step) = lines.next_usual_step(head.siblings) {
-        let line = ScenarioLine::Step(step);
-        plan.check(&line, head.task_limit)?;
-        return Ok(line);
-    }
     let words = lines.next_line(slots)?;
     let line = parse_line(words, head.siblings, plan.place())?;
     plan.check(&line, head.task_limit)?;
@@ -48,6 +43,7 @@ fn read_plan(alloc: Global, lines: &mut Lines<'_>, head: Head) -> Result<Plan, R
     let mut plan = Plan::new(alloc);
     let mut slots = slots();
     loop {
+        lines.take_usual_steps(head.siblings, &mut plan.steps)?;
         let line = match next_line(lines, &mut slots, head, &plan) {
             Ok(line) => line,
             Err(kind) => {

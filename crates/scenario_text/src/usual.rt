@@ -2,38 +2,46 @@
 //! `wake`, `advance`, `prctl`, `fork`, `setsched`, `offline` and `online`. It is separate from the forms of lines,
 //! which say the same of these and have all others.
 
-ghost use Rattle.std.specs.Prelude.{◌≡◌, ℕ, ◌<◌, ◌-◌, [], ◌∷◌, ◌++◌, IfSome};
+ghost use Rattle.std.specs.Prelude.{◌≡◌, ℕ, ◌<◌, ◌≤◌, ◌-◌, [], ◌∷◌, ◌++◌, length, take, codes, IfSome};
+ghost use Rattle.std.specs.Int.{w32, to_le_bytes};
 ghost use Rattle.cs_types.specs.declared.event.Actor.TheVariants.{Sibling};
 ghost use Rattle.cs_types.specs.Scenario.{IsWithin};
 ghost use Rattle.scenario_text.specs.Words.{child_word};
 ghost use Rattle.scenario_text.specs.Text.{line};
-ghost use Rattle.scenario_text.specs.Reading.{BeginsStep, BeginsActor, BeginsEvent, BeginsCall, BeginsAsk, BeginsPolicy, BeginsNumber, BeginsTarget};
+ghost use Rattle.scenario_text.specs.Reading.{BeginsStep, BeginsActor, BeginsEvent, BeginsCall, BeginsAsk, BeginsPolicy, BeginsNumber};
 
-use crate::number::{first_digits, is_canonical};
+use crate::number::{MOST_DIGITS, first_digits};
 use crate::pieces::cut;
-use crate::step::{
-    MOST_ADVANCE, MOST_CALLER, MOST_NAMED_PID, MOST_TARGET_ABOVE, MOST_TARGET_BELOW,
-};
+use crate::step::{MOST_ADVANCE, MOST_CALLER, MOST_NAMED_PID, MOST_TARGET_ABOVE};
 use crate::task::parse_policy;
-use cs_types::{Actor, Ask, Cpu, Event, Policy, Step};
+use cs_types::{Actor, Ask, Cpu, Event, Policy};
 
-/// What stands behind these bytes, where the text begins with them. Its own loop takes about half of the instructions that
-/// `strip_prefix` does, since the bytes are known where it is called.
+/// A text of fewer bytes is read the general way. In one of so many, no word and no number of a line that is read here
+/// reaches past the end, so the compiler leaves out most tests of whether a byte is there.
+const LONGEST: usize = 80;
+
+/// The first four bytes as one number, which is compared at once.
 #[inline(always)]
-fn behind<'a>(text: &'a [u8], first: &[u8]) -> Option<&'a [u8]>
-    ensures { IfSome result (λ rest. text.now ≡ first.now ++ rest.now) }
+fn four(bytes: &[u8]) -> u32
+    requires { 4 ≤ length bytes.now }
+    ensures { to_le_bytes w32 result ≡ take 4 bytes.now }
 {
-    if text.len() < first.len() {
+    u32::from_le_bytes([bytes[0], bytes[1], bytes[2], bytes[3]])
+}
+
+/// What stands behind this word of four to eight bytes, where the text begins with it. The first four of its bytes and the
+/// last four, which may be some of the same, are all of it.
+#[inline(always)]
+fn behind<'a>(text: &'a [u8], word: &[u8]) -> Option<&'a [u8]>
+    requires { IsWithin 4 8 (length word.now) }
+    ensures { IfSome result (λ rest. text.now ≡ word.now ++ rest.now) }
+{
+    let (front, rest) = text.split_at_checked(word.len())?;
+    let last = word.len() - 4;
+    if four(front) != four(word) || four(&front[last..]) != four(&word[last..]) {
         return None;
     }
-    let mut count = 0;
-    while count < first.len() {
-        if text[count] != first[count] {
-            return None;
-        }
-        count += 1;
-    }
-    Some(&text[count..])
+    Some(rest)
 }
 
 /// What the sibling does, to itself, where the text begins with that, and what stands behind its line.
@@ -57,71 +65,63 @@ fn sibling_event(text: &[u8], cpu: Cpu) -> Option<(Event, &[u8])>
     }
 }
 
-/// The number from `low` to `high` that stands before the first byte `end`, and what stands behind that byte.
+/// The number of one digit, up to `most`, that stands before the byte `end`, and what stands behind that byte.
 #[inline(always)]
-fn number_before(text: &[u8], end: u8, low: u64, high: u64) -> Option<(u64, &[u8])>
-    ensures { IfSome result (λ read. BeginsNumber low high text.now read.0 end read.1.now) }
+fn digit_before(text: &[u8], end: u8, most: u8) -> Option<(u8, &[u8])>
+    requires { most ≤ 9 }
+    ensures { IfSome result (λ read. BeginsNumber 0 most text.now read.0 end read.1.now) }
 {
-    let (number, count) = first_digits(text);
-    let (word, more) = text.split_at(count);
-    if !is_canonical(word) || !(low..=high).contains(&number) {
-        return None;
-    }
-    match *more {
-        [byte, ref rest @ ..] if byte == end => Some((number, rest)),
-        _ => None,
-    }
-}
-
-/// The sibling, of this number of them, that ends the first line, and what stands behind the line.
-#[inline(always)]
-fn last_cpu(text: &[u8], siblings: u8) -> Option<(Cpu, &[u8])>
-    requires { IsWithin 1 8 siblings }
-    ensures { IfSome result (λ read. BeginsNumber 0 (siblings - 1) text.now read.0 10 read.1.now) }
-{
-    let [digit, b'\n', ref rest @ ..] = *text else {
+    let [byte, next, ref rest @ ..] = *text else {
         return None;
     };
-    let cpu = digit.wrapping_sub(b'0');
-    if cpu < siblings {
-        Some((cpu, rest))
+    let digit = byte.wrapping_sub(b'0');
+    if next == end && digit <= most {
+        Some((digit, rest))
     } else {
         None
     }
 }
 
-/// The `wake` that the text begins with, and what stands behind its line.
+/// The number from `low`, which is 0 or 1, to `high` that stands before the byte `end`, and what stands behind that byte.
+#[inline(always)]
+fn number_before(text: &[u8], end: u8, low: u64, high: u64) -> Option<(u64, &[u8])>
+    requires { low ≤ 1 }
+    ensures { IfSome result (λ read. BeginsNumber low high text.now read.0 end read.1.now) }
+{
+    if text.len() <= MOST_DIGITS {
+        return None;
+    }
+    if low == 0 && text[0] == b'0' {
+        let (zero, rest) = digit_before(text, end, 0)?;
+        return Some((zero as u64, rest));
+    }
+    if text[0] < b'1' || text[0] > b'9' {
+        return None;
+    }
+    let (number, count) = first_digits(text);
+    let (_, more) = text.split_at(count);
+    match *more {
+        [byte, ref rest @ ..] if byte == end && number <= high => Some((number, rest)),
+        _ => None,
+    }
+}
+
+/// The `wake` whose arguments the text begins with, and what stands behind its line.
 #[inline(always)]
 fn wake_event(text: &[u8]) -> Option<(Event, &[u8])>
-    ensures { (siblings : ℕ) → IfSome result (λ read. BeginsCall siblings text.now read.0 read.1.now) }
+    ensures { (siblings : ℕ) → IfSome result (λ read. BeginsCall siblings (codes "wake " ++ text.now) read.0 read.1.now) }
 {
-    let (pid, rest) = number_before(behind(text, b"wake ")?, b'\n', 1, MOST_NAMED_PID)?;
+    let (pid, rest) = number_before(text, b'\n', 1, MOST_NAMED_PID)?;
     Some((Event::Wake(pid as u32), rest))
 }
 
-/// The `advance` that the text begins with, and what stands behind its line.
+/// The `advance` whose arguments the text begins with, and what stands behind its line.
 #[inline(always)]
 fn advance_event(text: &[u8]) -> Option<(Event, &[u8])>
-    ensures { (siblings : ℕ) → IfSome result (λ read. BeginsCall siblings text.now read.0 read.1.now) }
+    ensures { (siblings : ℕ) → IfSome result (λ read. BeginsCall siblings (codes "advance " ++ text.now) read.0 read.1.now) }
 {
-    let (delta, rest) = number_before(behind(text, b"advance ")?, b'\n', 1, MOST_ADVANCE)?;
+    let (delta, rest) = number_before(text, b'\n', 1, MOST_ADVANCE)?;
     Some((Event::Advance(delta), rest))
-}
-
-/// The `offline` or `online` that the text begins with, of one of this number of siblings, and what stands behind its
-/// line.
-#[inline(always)]
-fn hotplug_event(text: &[u8], siblings: u8) -> Option<(Event, &[u8])>
-    requires { IsWithin 1 8 siblings }
-    ensures { IfSome result (λ read. BeginsCall siblings text.now read.0 read.1.now) }
-{
-    if let Some(number) = behind(text, b"offline ") {
-        let (cpu, rest) = last_cpu(number, siblings)?;
-        Some((Event::Offline(cpu), rest))
-    } else {
-        let (cpu, rest) = last_cpu(behind(text, b"online ")?, siblings)?;
-        Some((Event::Online(cpu), rest))
-    }
 }
 
 /// Whether the child that ends the first line is a thread, and what stands behind the line.
@@ -136,29 +136,15 @@ fn last_child(text: &[u8]) -> Option<(bool, &[u8])>
     }
 }
 
-/// The `fork` that the text begins with, and what stands behind its line.
+/// The `fork` whose arguments the text begins with, and what stands behind its line.
 #[inline(always)]
 fn fork_event(text: &[u8]) -> Option<(Event, &[u8])>
-    ensures { (siblings : ℕ) → IfSome result (λ read. BeginsCall siblings text.now read.0 read.1.now) }
+    ensures { (siblings : ℕ) → IfSome result (λ read. BeginsCall siblings (codes "fork " ++ text.now) read.0 read.1.now) }
 {
-    let (caller, child) = number_before(behind(text, b"fork ")?, b' ', 1, MOST_NAMED_PID)?;
+    let (caller, child) = number_before(text, b' ', 1, MOST_NAMED_PID)?;
     let (thread, rest) = last_child(child)?;
     let caller = caller as u32;
     Some((Event::Fork { caller, thread }, rest))
-}
-
-/// The target of a `prctl` that stands before the first space, and what stands behind that.
-#[inline(always)]
-fn target_before(text: &[u8]) -> Option<(i32, &[u8])>
-    ensures { IfSome result (λ read. BeginsTarget text.now read.0 read.1.now) }
-{
-    if let Some(digits) = behind(text, b"-") {
-        let (below, rest) = number_before(digits, b' ', 1, MOST_TARGET_BELOW as u64)?;
-        Some((-(below as i64) as i32, rest))
-    } else {
-        let (above, rest) = number_before(text, b' ', 0, MOST_TARGET_ABOVE as u64)?;
-        Some((above as i32, rest))
-    }
 }
 
 /// The arguments of a `prctl` that the first line ends with, and what stands behind the line.
@@ -166,25 +152,26 @@ fn target_before(text: &[u8]) -> Option<(i32, &[u8])>
 fn last_ask(text: &[u8]) -> Option<(Ask, &[u8])>
     ensures { IfSome result (λ read. BeginsAsk text.now read.0 read.1.now) }
 {
-    let (cmd, text) = number_before(text, b' ', 0, u32::MAX as u64)?;
-    let (pid, text) = target_before(text)?;
-    let (scope, text) = number_before(text, b' ', 0, u32::MAX as u64)?;
+    // The commands and the scopes that are valid have one digit, and no valid target has a sign.
+    let (cmd, text) = digit_before(text, b' ', 9)?;
+    let (pid, text) = number_before(text, b' ', 0, MOST_TARGET_ABOVE as u64)?;
+    let (scope, text) = digit_before(text, b' ', 9)?;
     let (addr, rest) = number_before(text, b'\n', 0, u64::MAX)?;
     let ask = Ask {
         cmd: cmd as u32,
-        pid,
+        pid: pid as i32,
         scope: scope as u32,
         addr,
     };
     Some((ask, rest))
 }
 
-/// The `prctl` that the text begins with, and what stands behind its line.
+/// The `prctl` whose arguments the text begins with, and what stands behind its line.
 #[inline(always)]
 fn prctl_event(text: &[u8]) -> Option<(Event, &[u8])>
-    ensures { (siblings : ℕ) → IfSome result (λ read. BeginsCall siblings text.now read.0 read.1.now) }
+    ensures { (siblings : ℕ) → IfSome result (λ read. BeginsCall siblings (codes "prctl " ++ text.now) read.0 read.1.now) }
 {
-    let (caller, asked) = number_before(behind(text, b"prctl ")?, b' ', 1, MOST_NAMED_PID)?;
+    let (caller, asked) = number_before(text, b' ', 1, MOST_NAMED_PID)?;
     let (ask, rest) = last_ask(asked)?;
     let caller = caller as u32;
     Some((Event::Prctl { caller, ask }, rest))
@@ -200,12 +187,12 @@ fn last_policy(text: &[u8]) -> Option<(Policy, &[u8])>
     Some((policy, rest))
 }
 
-/// The `setsched` that the text begins with, and what stands behind its line.
+/// The `setsched` whose arguments the text begins with, and what stands behind its line.
 #[inline(always)]
 fn setsched_event(text: &[u8]) -> Option<(Event, &[u8])>
-    ensures { (siblings : ℕ) → IfSome result (λ read. BeginsCall siblings text.now read.0 read.1.now) }
+    ensures { (siblings : ℕ) → IfSome result (λ read. BeginsCall siblings (codes "setsched " ++ text.now) read.0 read.1.now) }
 {
-    let (pid, said) = number_before(behind(text, b"setsched ")?, b' ', 1, MOST_NAMED_PID)?;
+    let (pid, said) = number_before(text, b' ', 1, MOST_NAMED_PID)?;
     let (policy, rest) = last_policy(said)?;
     let pid = pid as u32;
     Some((Event::SetSched { pid, policy }, rest))
@@ -218,14 +205,22 @@ fn caller_event(text: &[u8], siblings: u8) -> Option<(Event, &[u8])>
     requires { IsWithin 1 8 siblings }
     ensures { IfSome result (λ read. BeginsCall siblings text.now read.0 read.1.now) }
 {
-    match *text {
-        [b'w', ..] => wake_event(text),
-        [b'a', ..] => advance_event(text),
-        [b'p', ..] => prctl_event(text),
-        [b'f', ..] => fork_event(text),
-        [b's', ..] => setsched_event(text),
-        [b'o', ..] => hotplug_event(text, siblings),
-        _ => None,
+    if let Some(words) = behind(text, b"wake ") {
+        wake_event(words)
+    } else if let Some(words) = behind(text, b"advance ") {
+        advance_event(words)
+    } else if let Some(words) = behind(text, b"prctl ") {
+        prctl_event(words)
+    } else if let Some(words) = behind(text, b"fork ") {
+        fork_event(words)
+    } else if let Some(words) = behind(text, b"online ") {
+        let (cpu, rest) = digit_before(words, b'\n', siblings - 1)?;
+        Some((Event::Online(cpu), rest))
+    } else if let Some(words) = behind(text, b"offline ") {
+        let (cpu, rest) = digit_before(words, b'\n', siblings - 1)?;
+        Some((Event::Offline(cpu), rest))
+    } else {
+        setsched_event(behind(behind(text, b"sets")?, b"ched ")?)
     }
 }
 
@@ -250,17 +245,20 @@ fn first_actor(text: &[u8], siblings: u8) -> Option<(Actor, &[u8])>
     }
 }
 
-/// The step of the first line, where it is one of these, and what stands behind the line.
+/// Who makes the step of the first line, where it is one of these, and what it does, and what stands behind the line.
 #[inline(always)]
-pub(crate) fn usual_step(text: &[u8], siblings: u8) -> Option<(Step, &[u8])>
+pub(crate) fn usual_step(text: &[u8], siblings: u8) -> Option<(Actor, Event, &[u8])>
     requires { IsWithin 1 8 siblings }
-    ensures { IfSome result (λ read. BeginsStep siblings text.now read.0 read.1.now) }
+    ensures { IfSome result (λ read. BeginsStep siblings text.now (record { actor = read.0; event = read.1 }) read.2.now) }
 {
+    if text.len() < LONGEST {
+        return None;
+    }
     let (actor, text) = first_actor(behind(text, b"step ")?, siblings)?;
     let (event, rest) = match actor {
         Actor::Sibling(cpu) => sibling_event(text, cpu)?,
         Actor::Caller(_) => caller_event(text, siblings)?,
         Actor::End => return None,
     };
-    Some((Step { actor, event }, rest))
+    Some((actor, event, rest))
 }

@@ -1,37 +1,26 @@
-use Rattle.std.proofs.Common.{Err, Ok, sym}
+use Rattle.std.proofs.Common.{Err, Ok}
 use Rattle.std.proofs.lemmas.Result.{err_from_is_err_and}
 use Rattle.scenario_text.specs.Reading.{contents}
-use Rattle.scenario_text.proofs.UsualLines.{next_checked, untaken, formless, line_checked}
+use Rattle.scenario_text.proofs.UsualLines.{untaken, formless, line_checked}
 use Rattle.scenario_text.proofs.reading.next_line.Goals as goal
-
-pub returns-in_err-check : goal.returns-in_err-check
-returns-in_err-check c =
-    let fault = err_from_is_err_and c.from_residual.result c.from_residual.ensures.1 in
-    rw (fault.1, fault.2)
-    (next_checked c.args.head c.requires.head (contents c.args.plan.now) c.args.lines.now c.next_usual_step.new.self c.in-Some.step c.in-Some.ensures.0 c.in-Some.ensures.1 (Err c.in_err-check.field-0.0) c.in_err-check.ensures)
-
-pub returns-in-Some : goal.returns-in-Some
-returns-in-Some c =
-    next_checked c.args.head c.requires.head (contents c.args.plan.now) c.args.lines.now c.next_usual_step.new.self c.in-Some.step c.in-Some.ensures.0 c.in-Some.ensures.1 (Ok tt) c.in_ok-check.ensures
 
 pub returns-in_err-words : goal.returns-in_err-words
 returns-in_err-words c =
-    let fault = err_from_is_err_and c.from_residual-in_err-words.result c.from_residual-in_err-words.ensures.1 in
-    rw (fault.1, fault.2, sym c.in_default.ensures) (untaken c.args.head (contents c.args.plan.now) c.next_usual_step.new.self c.next_line.new.self _ c.in_err-words.ensures)
+    let fault = err_from_is_err_and c.from_residual.result c.from_residual.ensures.1 in
+    rw (fault.1, fault.2) (untaken c.args.head (contents c.args.plan.now) c.args.lines.now c.next_line.new.self _ c.in_err-words.ensures)
 
 pub returns-in_err-line : goal.returns-in_err-line
 returns-in_err-line c =
     let fault = err_from_is_err_and c.from_residual-in_err-line.result c.from_residual-in_err-line.ensures.1 in
-    rw (fault.1, fault.2, sym c.in_default.ensures)
-    (formless c.args.head (contents c.args.plan.now) c.next_usual_step.new.self c.next_line.new.self c.in_ok-words.words.now c.in_ok-words.ensures c.place.result c.place.ensures _ c.in_err-line.ensures)
+    rw (fault.1, fault.2)
+    (formless c.args.head (contents c.args.plan.now) c.args.lines.now c.next_line.new.self c.in_ok-words.words.now c.in_ok-words.ensures c.place.result c.place.ensures _ c.in_err-line.ensures)
 
-pub returns-in_err-check-2 : goal.returns-in_err-check-2
-returns-in_err-check-2 c =
-    let fault = err_from_is_err_and c.from_residual-in_err-check-2.result c.from_residual-in_err-check-2.ensures.1 in
-    rw (fault.1, fault.2, sym c.in_default.ensures)
-    (line_checked c.args.head (contents c.args.plan.now) c.next_usual_step.new.self c.next_line.new.self c.in_ok-words.words.now c.in_ok-words.ensures c.place.result c.place.ensures c.in_ok-line.line c.in_ok-line.ensures (Err c.in_err-check-2.field-0.0) c.in_err-check-2.ensures)
+pub returns-in_err-check : goal.returns-in_err-check
+returns-in_err-check c =
+    let fault = err_from_is_err_and c.from_residual-in_err-check.result c.from_residual-in_err-check.ensures.1 in
+    rw (fault.1, fault.2)
+    (line_checked c.args.head (contents c.args.plan.now) c.args.lines.now c.next_line.new.self c.in_ok-words.words.now c.in_ok-words.ensures c.place.result c.place.ensures c.in_ok-line.line c.in_ok-line.ensures (Err c.in_err-check.field-0.0) c.in_err-check.ensures)
 
 pub returns : goal.returns
 returns c =
-    rw (sym c.in_default.ensures)
-    (line_checked c.args.head (contents c.args.plan.now) c.next_usual_step.new.self c.next_line.new.self c.in_ok-words.words.now c.in_ok-words.ensures c.place.result c.place.ensures c.in_ok-line.line c.in_ok-line.ensures (Ok tt) c.in_ok-check-2.ensures)
+    (line_checked c.args.head (contents c.args.plan.now) c.args.lines.now c.next_line.new.self c.in_ok-words.words.now c.in_ok-words.ensures c.place.result c.place.ensures c.in_ok-line.line c.in_ok-line.ensures (Ok tt) c.in_ok-check.ensures)

@@ -1,40 +1,46 @@
-use Rattle.std.proofs.Common.{List, Ok, sym, ap, subst, ◌∙◌}
+use Rattle.std.proofs.Common.{List, Ok, sym, ap, subst, ◌∙◌, arith}
 use Rattle.cs_types.specs.declared.task.TaskSpec.{TaskSpec}
 use Rattle.cs_types.specs.declared.event.Step.{Step}
 use Rattle.cs_types.specs.declared.scenario.Teach.{Teach}
+use Rattle.scenario_text.specs.declared.line.Place.{Place}
 use Rattle.scenario_text.specs.declared.line.ScenarioLine.{ScenarioLine}
 use Rattle.scenario_text.specs.declared.line.ScenarioLine.TheVariants as forms
 use Rattle.scenario_text.specs.Reading.{contents, next_of}
 use Rattle.scenario_text.proofs.Beginnings.{taken_line, taken_fault}
 use Rattle.scenario_text.proofs.Building.{with_task, with_teach, with_step, ReadSoFar, task_grows, teach_grows, step_grows, grown, refused, complete, late}
+use Rattle.scenario_text.proofs.UsualSteps.{with_steps, so_far_taken}
 use Rattle.scenario_text.proofs.Drafts.{next_good, is_shorter}
 use Rattle.scenario_text.proofs.reading.read_plan.Goals as goal
 
 pub returns-in-Err : goal.returns-in-Err
 returns-in-Err c =
     let head = c.args.head in
-    let plan = contents c.loop-line.plan in
-    let lines = c.loop-line.lines in
+    let taken_steps = so_far_taken head c.requires.head c.args.lines.now (contents c.loop-plan.plan) c.loop-plan.lines c.loop-plan.invariant _ _ c.in_ok-take_usual_steps.ensures in
+    let plan = with_steps c.take_usual_steps.new.steps.items (contents c.loop-plan.plan) in
+    let lines = c.take_usual_steps.new.self in
     rw c.place-line.ensures
-    (refused head c.requires.head c.args.lines.now plan lines c.loop-line.invariant _
+    (refused head c.requires.head c.args.lines.now plan lines taken_steps.0 _
     (taken_fault (next_of head plan lines) c.next_line.new.lines 0 c.next_line.result c.next_line.ensures _ c.in-Err.is))
 
-pub loop-line-smaller-in-Continue-1 : goal.loop-line-smaller-in-Continue-1
-loop-line-smaller-in-Continue-1 c =
+pub loop-plan-smaller-in-Continue-branch-2 : goal.loop-plan-smaller-in-Continue-branch-2
+loop-plan-smaller-in-Continue-branch-2 c =
     let head = c.args.head in
-    let plan = contents c.loop-line.plan in
-    let lines = c.loop-line.lines in
+    let taken_steps = so_far_taken head c.requires.head c.args.lines.now (contents c.loop-plan.plan) c.loop-plan.lines c.loop-plan.invariant _ _ c.in_ok-take_usual_steps.ensures in
+    let plan = with_steps c.take_usual_steps.new.steps.items (contents c.loop-plan.plan) in
+    let lines = c.take_usual_steps.new.self in
     let taken = taken_line (next_of head plan lines) c.next_line.new.lines 0 c.next_line.result c.next_line.ensures _ c.in-Ok.is in
-    let next = next_good head c.requires.head plan c.loop-line.invariant.is lines _ _ taken in
-    is_shorter _ _ _ _ _ next.lines_are next.rest_is
+    let next = next_good head c.requires.head plan taken_steps.0.is lines _ _ taken in
+    let shorter = is_shorter _ _ _ _ _ next.lines_are next.rest_is in
+    omega (arith, taken_steps.1, shorter)
 
-pub loop-line-preserved-in-Continue-1 : goal.loop-line-preserved-in-Continue-1
-loop-line-preserved-in-Continue-1 c =
+pub loop-plan-preserved-in-Continue-branch-2 : goal.loop-plan-preserved-in-Continue-branch-2
+loop-plan-preserved-in-Continue-branch-2 c =
     let head = c.args.head in
-    let plan = contents c.loop-line.plan in
-    let lines = c.loop-line.lines in
+    let taken_steps = so_far_taken head c.requires.head c.args.lines.now (contents c.loop-plan.plan) c.loop-plan.lines c.loop-plan.invariant _ _ c.in_ok-take_usual_steps.ensures in
+    let plan = with_steps c.take_usual_steps.new.steps.items (contents c.loop-plan.plan) in
+    let lines = c.take_usual_steps.new.self in
     let rest = c.next_line.new.lines in
-    let so_far = c.loop-line.invariant in
+    let so_far = taken_steps.0 in
     let task = c.in-Task.task in
     let taken = taken_line (next_of head plan lines) rest 0 c.next_line.result c.next_line.ensures _ c.in-Ok.is in
     let next = next_good head c.requires.head plan so_far.is lines (forms.Task task) rest (taken ∙ ap (λ (line : ScenarioLine). Ok (line, rest)) c.in-Task.is) in
@@ -42,22 +48,25 @@ loop-line-preserved-in-Continue-1 c =
     subst (λ (tasks : List TaskSpec). ReadSoFar head c.args.lines.now (record plan { tasks = tasks }) rest) (sym c.in_ok-push-in-Task.ensures.items)
     (grown head c.requires.head c.args.lines.now plan lines so_far (forms.Task task) rest (with_task task plan) next grows)
 
-pub loop-line-smaller-in-Continue-branch-2 : goal.loop-line-smaller-in-Continue-branch-2
-loop-line-smaller-in-Continue-branch-2 c =
+pub loop-plan-smaller-in-Continue-branch-3 : goal.loop-plan-smaller-in-Continue-branch-3
+loop-plan-smaller-in-Continue-branch-3 c =
     let head = c.args.head in
-    let plan = contents c.loop-line.plan in
-    let lines = c.loop-line.lines in
+    let taken_steps = so_far_taken head c.requires.head c.args.lines.now (contents c.loop-plan.plan) c.loop-plan.lines c.loop-plan.invariant _ _ c.in_ok-take_usual_steps.ensures in
+    let plan = with_steps c.take_usual_steps.new.steps.items (contents c.loop-plan.plan) in
+    let lines = c.take_usual_steps.new.self in
     let taken = taken_line (next_of head plan lines) c.next_line.new.lines 0 c.next_line.result c.next_line.ensures _ c.in-Ok.is in
-    let next = next_good head c.requires.head plan c.loop-line.invariant.is lines _ _ taken in
-    is_shorter _ _ _ _ _ next.lines_are next.rest_is
+    let next = next_good head c.requires.head plan taken_steps.0.is lines _ _ taken in
+    let shorter = is_shorter _ _ _ _ _ next.lines_are next.rest_is in
+    omega (arith, taken_steps.1, shorter)
 
-pub loop-line-preserved-in-Continue-branch-2 : goal.loop-line-preserved-in-Continue-branch-2
-loop-line-preserved-in-Continue-branch-2 c =
+pub loop-plan-preserved-in-Continue-branch-3 : goal.loop-plan-preserved-in-Continue-branch-3
+loop-plan-preserved-in-Continue-branch-3 c =
     let head = c.args.head in
-    let plan = contents c.loop-line.plan in
-    let lines = c.loop-line.lines in
+    let taken_steps = so_far_taken head c.requires.head c.args.lines.now (contents c.loop-plan.plan) c.loop-plan.lines c.loop-plan.invariant _ _ c.in_ok-take_usual_steps.ensures in
+    let plan = with_steps c.take_usual_steps.new.steps.items (contents c.loop-plan.plan) in
+    let lines = c.take_usual_steps.new.self in
     let rest = c.next_line.new.lines in
-    let so_far = c.loop-line.invariant in
+    let so_far = taken_steps.0 in
     let teach = c.in-Teach.teach in
     let taken = taken_line (next_of head plan lines) rest 0 c.next_line.result c.next_line.ensures _ c.in-Ok.is in
     let next = next_good head c.requires.head plan so_far.is lines (forms.Teach teach) rest (taken ∙ ap (λ (line : ScenarioLine). Ok (line, rest)) c.in-Teach.is) in
@@ -65,22 +74,25 @@ loop-line-preserved-in-Continue-branch-2 c =
     subst (λ (teaches : List Teach). ReadSoFar head c.args.lines.now (record plan { teaches = teaches }) rest) (sym c.in_ok-push-in-Teach.ensures.items)
     (grown head c.requires.head c.args.lines.now plan lines so_far (forms.Teach teach) rest (with_teach teach plan) next grows)
 
-pub loop-line-smaller : goal.loop-line-smaller
-loop-line-smaller c =
+pub loop-plan-smaller : goal.loop-plan-smaller
+loop-plan-smaller c =
     let head = c.args.head in
-    let plan = contents c.loop-line.plan in
-    let lines = c.loop-line.lines in
+    let taken_steps = so_far_taken head c.requires.head c.args.lines.now (contents c.loop-plan.plan) c.loop-plan.lines c.loop-plan.invariant _ _ c.in_ok-take_usual_steps.ensures in
+    let plan = with_steps c.take_usual_steps.new.steps.items (contents c.loop-plan.plan) in
+    let lines = c.take_usual_steps.new.self in
     let taken = taken_line (next_of head plan lines) c.next_line.new.lines 0 c.next_line.result c.next_line.ensures _ c.in-Ok.is in
-    let next = next_good head c.requires.head plan c.loop-line.invariant.is lines _ _ taken in
-    is_shorter _ _ _ _ _ next.lines_are next.rest_is
+    let next = next_good head c.requires.head plan taken_steps.0.is lines _ _ taken in
+    let shorter = is_shorter _ _ _ _ _ next.lines_are next.rest_is in
+    omega (arith, taken_steps.1, shorter)
 
-pub loop-line-preserved : goal.loop-line-preserved
-loop-line-preserved c =
+pub loop-plan-preserved : goal.loop-plan-preserved
+loop-plan-preserved c =
     let head = c.args.head in
-    let plan = contents c.loop-line.plan in
-    let lines = c.loop-line.lines in
+    let taken_steps = so_far_taken head c.requires.head c.args.lines.now (contents c.loop-plan.plan) c.loop-plan.lines c.loop-plan.invariant _ _ c.in_ok-take_usual_steps.ensures in
+    let plan = with_steps c.take_usual_steps.new.steps.items (contents c.loop-plan.plan) in
+    let lines = c.take_usual_steps.new.self in
     let rest = c.next_line.new.lines in
-    let so_far = c.loop-line.invariant in
+    let so_far = taken_steps.0 in
     let step = c.in-Step.step in
     let taken = taken_line (next_of head plan lines) rest 0 c.next_line.result c.next_line.ensures _ c.in-Ok.is in
     let next = next_good head c.requires.head plan so_far.is lines (forms.Step step) rest (taken ∙ ap (λ (line : ScenarioLine). Ok (line, rest)) c.in-Step.is) in
@@ -88,13 +100,28 @@ loop-line-preserved c =
     subst (λ (steps : List Step). ReadSoFar head c.args.lines.now (record plan { steps = steps }) rest) (sym c.in_ok-push-in-Step.ensures.items)
     (grown head c.requires.head c.args.lines.now plan lines so_far (forms.Step step) rest (with_step step plan) next grows)
 
+pub place-requires : goal.place-requires
+place-requires c =
+    let head = c.args.head in
+    let taken_steps = so_far_taken head c.requires.head c.args.lines.now (contents c.loop-plan.plan) c.loop-plan.lines c.loop-plan.invariant _ _ c.in_ok-take_usual_steps.ensures in
+    let is = taken_steps.0.is in
+    record { tasks = omega (arith, is.few_tasks); teaches = is.few_teaches; steps = is.few_steps }
+
+pub overflow_add-result : goal.overflow_add-result
+overflow_add-result c =
+    let head = c.args.head in
+    let taken_steps = so_far_taken head c.requires.head c.args.lines.now (contents c.loop-plan.plan) c.loop-plan.lines c.loop-plan.invariant _ _ c.in_ok-take_usual_steps.ensures in
+    let is = taken_steps.0.is in
+    omega (arith, is.few_tasks, is.few_teaches, is.few_steps, ap (λ (place : Place). place.number) c.place.ensures)
+
 pub returns-then-not-is_empty : goal.returns-then-not-is_empty
 returns-then-not-is_empty c =
     let head = c.args.head in
-    let plan = contents c.loop-line.plan in
-    let lines = c.loop-line.lines in
+    let taken_steps = so_far_taken head c.requires.head c.args.lines.now (contents c.loop-plan.plan) c.loop-plan.lines c.loop-plan.invariant _ _ c.in_ok-take_usual_steps.ensures in
+    let plan = with_steps c.take_usual_steps.new.steps.items (contents c.loop-plan.plan) in
+    let lines = c.take_usual_steps.new.self in
     let rest = c.next_line.new.lines in
-    let so_far = c.loop-line.invariant in
+    let so_far = taken_steps.0 in
     let taken = taken_line (next_of head plan lines) rest 0 c.next_line.result c.next_line.ensures _ c.in-Ok.is in
     let next = next_good head c.requires.head plan so_far.is lines forms.End rest (taken ∙ ap (λ (line : ScenarioLine). Ok (line, rest)) c.in-End.is) in
     rw c.place.ensures (late head c.requires.head c.args.lines.now plan lines so_far rest next (sym c.if-not-is_empty.ensures))
@@ -102,10 +129,11 @@ returns-then-not-is_empty c =
 pub returns : goal.returns
 returns c =
     let head = c.args.head in
-    let plan = contents c.loop-line.plan in
-    let lines = c.loop-line.lines in
+    let taken_steps = so_far_taken head c.requires.head c.args.lines.now (contents c.loop-plan.plan) c.loop-plan.lines c.loop-plan.invariant _ _ c.in_ok-take_usual_steps.ensures in
+    let plan = with_steps c.take_usual_steps.new.steps.items (contents c.loop-plan.plan) in
+    let lines = c.take_usual_steps.new.self in
     let rest = c.next_line.new.lines in
-    let so_far = c.loop-line.invariant in
+    let so_far = taken_steps.0 in
     let taken = taken_line (next_of head plan lines) rest 0 c.next_line.result c.next_line.ensures _ c.in-Ok.is in
     let next = next_good head c.requires.head plan so_far.is lines forms.End rest (taken ∙ ap (λ (line : ScenarioLine). Ok (line, rest)) c.in-End.is) in
     complete head c.requires.head c.args.lines.now plan lines so_far rest next (sym c.if-not-is_empty.ensures)

@@ -3,8 +3,8 @@ use Rattle.scenario_text.specs.Reading.{contents}
 use Rattle.scenario_text.proofs.Building.{ReadSoFar}
 use Rattle.scenario_text.proofs.reading.read_plan.Given as goal
 
-abbrev pub invariant-loop-line : goal.invariant-loop-line
-invariant-loop-line l = ReadSoFar l.head l.fn.lines (contents l.plan) l.lines
+abbrev pub invariant-loop-plan : goal.invariant-loop-plan
+invariant-loop-plan l = ReadSoFar l.head l.fn.lines (contents l.plan) l.lines
 
-abbrev pub decreases-loop-line : goal.decreases-loop-line
-decreases-loop-line l = length l.lines
+abbrev pub decreases-loop-plan : goal.decreases-loop-plan
+decreases-loop-plan l = length l.lines

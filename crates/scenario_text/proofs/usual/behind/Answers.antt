@@ -1,12 +1,17 @@
-use Rattle.std.proofs.Common.{arith}
-use Rattle.scenario_text.proofs.UsualLines.{more_alike, behind_is}
+use Rattle.std.proofs.Common.{◌∙◌, ◌++◌, List, ℕ, length, drop, ap, sym}
+use Rattle.std.specs.Int.{w32, to_le_bytes}
+use Rattle.std.proofs.lemmas.List.{take-append-drop}
+use Rattle.scenario_text.proofs.UsualLines.{same_word}
 use Rattle.scenario_text.proofs.usual.behind.Goals as goal
 
-pub loop-count-preserved : goal.loop-count-preserved
-loop-count-preserved c = (
-  omega arith,
-  more_alike c.args.text.now c.args.first.now c.loop-count.count c.loop-count-test.true c.if-text-first.false c.loop-count.invariant.1 c.if-text-count.false,
-)
-
 pub returns : goal.returns
-returns c = behind_is c.args.text.now c.args.first.now c.loop-count.count (omega arith) c.loop-count.invariant.1
+returns c =
+    let text = c.args.text.now in
+    let front = c.in_ok-front.front.now in
+    let word = c.args.word.now in
+    let is = c.in_ok-front.ensures.cases in
+    let first = sym c.four.ensures ∙ ap (to_le_bytes w32) c.if-four.false ∙ c.four-2.ensures in
+    let last = sym c.four-else-four.ensures ∙ ap (to_le_bytes w32) c.if-four-2.false ∙ c.four-else-four-2.ensures in
+    sym (take-append-drop (length word) text)
+    ∙ ap (λ (bytes : List ℕ). bytes ++ drop (length word) text) (sym is.1 ∙ same_word front word is.3 c.requires.0 c.requires.1 first last)
+    ∙ ap (λ (bytes : List ℕ). word ++ bytes) (sym is.2)

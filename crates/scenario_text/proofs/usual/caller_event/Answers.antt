@@ -1,19 +1,23 @@
+use Rattle.std.proofs.Common.{arith}
+use Rattle.std.specs.Prelude.{codes}
+use Rattle.scenario_text.proofs.UsualLines.{behind_word}
 use Rattle.scenario_text.proofs.usual.caller_event.Goals as goal
 
-pub returns-in-119 : goal.returns-in-119
-returns-in-119 c = c.wake_event.ensures c.args.siblings
+pub returns-in-Some-behind-3 : goal.returns-in-Some-behind-3
+returns-in-Some-behind-3 c = rw c.in-Some-behind-3.ensures (c.fork_event.ensures c.args.siblings)
 
-pub returns-in-97 : goal.returns-in-97
-returns-in-97 c = c.advance_event.ensures c.args.siblings
+pub returns-in_ok-cpu : goal.returns-in_ok-cpu
+returns-in_ok-cpu c j caller =
+    let read = c.in_ok-cpu in
+    record {
+      is = record { event = omega (arith, c.requires.0, read.ensures.within.1); actor = caller };
+      spelled = behind_word (codes "online") c.args.text.now c.in-Some-behind-4.words.now read.rest.now read.cpu c.in-Some-behind-4.ensures read.ensures.spelled;
+    }
 
-pub returns-in-112 : goal.returns-in-112
-returns-in-112 c = c.prctl_event.ensures c.args.siblings
-
-pub returns-in-102 : goal.returns-in-102
-returns-in-102 c = c.fork_event.ensures c.args.siblings
-
-pub returns-in-115 : goal.returns-in-115
-returns-in-115 c = c.setsched_event.ensures c.args.siblings
-
-pub returns-in-111 : goal.returns-in-111
-returns-in-111 c = c.hotplug_event.ensures
+pub returns-in_ok-cpu-2 : goal.returns-in_ok-cpu-2
+returns-in_ok-cpu-2 c j caller =
+    let read = c.in_ok-cpu-2 in
+    record {
+      is = record { event = omega (arith, c.requires.0, read.ensures.within.1); actor = caller };
+      spelled = behind_word (codes "offline") c.args.text.now c.in-Some-behind-5.words.now read.rest.now read.cpu c.in-Some-behind-5.ensures read.ensures.spelled;
+    }
