@@ -121,13 +121,7 @@ impl CookieQueue {
         ensures first { result ≡ first_with self.now.tasks cookie }
         ensures counted { steps.new ≤ steps.old + most_comparisons (map.len self.now.tasks) }
     {
-        let least = Key {
-            group: cookie,
-            class: 0,
-            rank: 0,
-            stamp: 0,
-        };
-        queued_with(cookie, self.tree.first_from(&least, steps))
+        queued_with(cookie, self.tree.first_in(cookie, steps))
     }
 
     /// The highest task with the cookie of this one that is lower than it (`sched_core_next`,

@@ -219,10 +219,6 @@ pub not_empty : {es : List Entry} (empty : Bool) → (IsTrue empty → es ≡ []
 not_empty true says is none = cc
 not_empty false says is none = let h = says.1 none in cc
 
-pub option_or-None : {A : Type 0} (o : Option A) → option_or o None ≡ o
-option_or-None None = refl
-option_or-None (Some x) = refl
-
 -- the last of three choices, where the second is made
 pub option_or-Some : {A : Type 0} (o : Option A) (x : A) (other : Option A) → option_or (option_or o (Some x)) other ≡ option_or o (Some x)
 option_or-Some None x other = refl

@@ -11,6 +11,10 @@ key_cmp a b =
     ordering_then (nat_cmp a.group b.group)
     (ordering_then (nat_cmp a.class b.class) (ordering_then (nat_cmp a.rank b.rank) (nat_cmp a.stamp b.stamp)))
 
+-- the least key of a group
+abbrev pub start_of : ℕ → Key
+start_of group = record { group = group; class = 0; rank = 0; stamp = 0 }
+
 -- a key, and the pid that stands at it
 abbrev pub Entry : Type 0
 Entry = Key × ℕ

@@ -1,11 +1,16 @@
 -- Recent: a tree beside which an entry stands that was put last. No public clause cites this module.
 use Rattle.std.specs.Prelude.{◌≡◌, ℕ, ◌-◌, ◌<◌, ◌==◌, Bool, false, Option, Some, None, IfSome, if◌then◌else◌}
 use Rattle.std.specs.FinMap.{get, insert}
-use Rattle.std.specs.Option.{option_len}
+use Rattle.std.specs.Option.{option_len, option_map}
+use Rattle.std.specs.Borrow.{Bor}
 use Rattle.std.specs.Ordering.{is_lt, eq_by_cmp}
 use Rattle.order_tree.specs.Order.{Entry, Members, Ordered, key_cmp}
 use Rattle.order_tree.specs.Branch.{reaches}
 use Rattle.order_tree.specs.declared.key.Key.{Key}
+
+-- an entry whose key is lent
+abbrev pub lent : Option (Bor Key × ℕ) → Option Entry
+lent entry = option_map (λ e. (e.0.now, e.1)) entry
 
 -- what stands in a tree, with the entry beside it
 abbrev pub with_recent : Option Entry → Members → Members

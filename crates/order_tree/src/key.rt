@@ -2,7 +2,7 @@
 
 ghost use Rattle.std.specs.Prelude.{◌≡◌};
 ghost use Rattle.std.specs.Ordering.{is_lt};
-ghost use Rattle.order_tree.specs.Order.{key_cmp};
+ghost use Rattle.order_tree.specs.Order.{key_cmp, start_of};
 
 use std::cmp::Ordering;
 
@@ -27,6 +27,30 @@ impl Key {
         rank: 0,
         stamp: 0,
     };
+
+    /// The least key of a group.
+    #[inline(always)]
+    pub fn start_of(group: u64) -> Key
+        ensures { result ≡ start_of group }
+    {
+        Key {
+            group,
+            class: 0,
+            rank: 0,
+            stamp: 0,
+        }
+    }
+
+    /// Writes another key over it. It writes the parts alone, and not the bytes between them.
+    #[inline(always)]
+    pub fn set(&mut self, other: &Key)
+        ensures { self.new ≡ other.now }
+    {
+        self.group = other.group;
+        self.class = other.class;
+        self.rank = other.rank;
+        self.stamp = other.stamp;
+    }
 
     /// Whether it stands before the other. It says what `cmp` says, in the fewest tests: a walk asks it at each step.
     #[inline(always)]

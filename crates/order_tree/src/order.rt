@@ -6,9 +6,9 @@ ghost use Rattle.std.specs.FinMap as map;
 ghost use Rattle.std.specs.Option.{option_map};
 ghost use Rattle.cs_types.specs.Comparisons.{digits};
 ghost use Rattle.order_tree.specs.Anew.{rekeyed};
-ghost use Rattle.order_tree.specs.Order.{key_cmp, stamped, first_of, first_from, next_of};
+ghost use Rattle.order_tree.specs.Order.{key_cmp, start_of, stamped, first_of, first_from, next_of};
 ghost use Rattle.order_tree.specs.Balance.{entry_at};
-ghost use Rattle.order_tree.specs.Recent.{lesser, renewed};
+ghost use Rattle.order_tree.specs.Recent.{lent, lesser, renewed};
 
 use crate::key::Key;
 use crate::movers::Movers;
@@ -177,7 +177,17 @@ impl OrderTree {
         ensures first { result ≡ first_from self.now.members key.now }
         ensures counted { steps.new ≤ steps.old + 2 * digits (map.len self.now.members) }
     {
-        entry_of(self.tree.seek(key, true, None, steps))
+        entry_of(self.tree.seek(key, true, steps))
+    }
+
+    /// The least key that is of this group or of a greater one, and the pid there. `None` exactly where each key is of a
+    /// lesser group.
+    #[inline(always)]
+    pub fn first_in<L: Ledger>(&self, group: u64, steps: &mut Steps<L>) -> Option<(&Key, Pid)>
+        ensures first { lent result ≡ first_from self.now.members (start_of group) }
+        ensures counted { steps.new ≤ steps.old + 2 * digits (map.len self.now.members) }
+    {
+        lend(self.tree.first_in(group, steps))
     }
 
     /// The least key that is above this one, and the pid there. `None` exactly where no key is above it.
@@ -185,7 +195,7 @@ impl OrderTree {
         ensures next { result ≡ next_of self.now.members key.now }
         ensures counted { steps.new ≤ steps.old + 2 * digits (map.len self.now.members) }
     {
-        entry_of(self.tree.seek(key, false, None, steps))
+        entry_of(self.tree.seek(key, false, steps))
     }
 
     /// How many keys there are.
@@ -233,6 +243,26 @@ pub fn lesser<L: Ledger>(
     }
 }
 
+/// The same of entries whose keys are lent, so that the caller copies the one that it gets and no more.
+#[inline(always)]
+pub fn lesser_lent<'a, L: Ledger>(
+    one: Option<(&'a Key, Pid)>,
+    other: Option<(&'a Key, Pid)>,
+    steps: &mut Steps<L>,
+) -> Option<(&'a Key, Pid)>
+    ensures lesser { lent result ≡ lesser (lent one.entry) (lent other.entry) }
+    ensures counted { steps.new ≤ steps.old + 1 }
+{
+    let Some(left) = one else {
+        return other;
+    };
+    let Some(right) = other else {
+        return one;
+    };
+    steps.tick();
+    if left.0.is_below(right.0) { one } else { other }
+}
+
 /// Writes an entry where none is, or one with a greater key.
 #[inline(always)]
 fn take_lesser<L: Ledger>(first: &mut Option<(Key, Pid)>, key: Key, pid: Pid, steps: &mut Steps<L>)
@@ -276,6 +306,15 @@ fn entry_of(node: Option<&Node>) -> Option<(Key, Pid)>
 {
     let node = node?;
     Some(node.entry())
+}
+
+/// The entry of a node, if there is one, with its key lent.
+#[inline(always)]
+fn lend(node: Option<&Node>) -> Option<(&Key, Pid)>
+    ensures { lent result ≡ entry_at node.entry }
+{
+    let node = node?;
+    Some(node.lend())
 }
 
 /// Adds nodes until there are `n`. There are places for as many.

@@ -2,18 +2,18 @@
 //! alone.
 
 ghost use Rattle.std.specs.Prelude as list;
-ghost use Rattle.std.specs.Prelude.{◌≡◌, ◌+◌, ◌<◌, ◌≤◌, ◌++◌, length, max, None, OnOk, OnErr, if◌then◌else◌, IsPermutation, IsTrue};
+ghost use Rattle.std.specs.Prelude.{◌≡◌, ◌+◌, ◌<◌, ◌≤◌, ◌++◌, length, max, true, None, OnOk, OnErr, if◌then◌else◌, IsPermutation, IsTrue};
 ghost use Rattle.std.specs.FinMap as map;
 ghost use Rattle.std.specs.Option.{option_map};
 ghost use Rattle.cs_types.specs.Comparisons.{most_comparisons};
 ghost use Rattle.order_tree.specs.Anew.{rekeyed};
-ghost use Rattle.order_tree.specs.Order.{key_cmp, stamped, first_of, first_from, next_of};
+ghost use Rattle.order_tree.specs.Order.{key_cmp, start_of, stamped, first_of, first_from, next_of};
 ghost use Rattle.order_tree.specs.Rank.{IsOfClass};
-ghost use Rattle.order_tree.specs.Recent.{reaching, is_at};
+ghost use Rattle.order_tree.specs.Recent.{lent, reaching, is_at};
 
 use crate::key::Key;
 use crate::movers::Movers;
-use crate::order::{OrderTree, lesser};
+use crate::order::{OrderTree, lesser, lesser_lent};
 use crate::renewal::Renewal;
 use crate::tree::reaches;
 use cs_types::{OutOfMemory, Pid, Steps};
@@ -80,12 +80,13 @@ impl RecentTree {
         ensures spare { self.new.spare + 1 ≡ self.old.spare }
         ensures counted { steps.new ≤ steps.old + most_comparisons (map.len self.old.members) }
     {
-        let Some((last, other)) = self.recent else {
+        let Some((last, other)) = &mut self.recent else {
             self.recent = Some((key, pid));
             return;
         };
-        self.tree.insert(last, other, steps);
-        self.recent = Some((key, pid));
+        self.tree.insert(*last, *other, steps);
+        last.set(&key);
+        *other = pid;
     }
 
     /// Takes out the pid at a key. `false` comes exactly where none is there, and then nothing changes.
@@ -196,6 +197,16 @@ impl RecentTree {
         lesser(reaching(self.recent, key, true, steps), found, steps)
     }
 
+    /// The least key that is of this group or of a greater one, and the pid there. `None` exactly where each key is of a
+    /// lesser group.
+    pub fn first_in<L: Ledger>(&self, group: u64, steps: &mut Steps<L>) -> Option<(Key, Pid)>
+        ensures first { result ≡ first_from self.now.members (start_of group) }
+        ensures counted { steps.new ≤ steps.old + most_comparisons (map.len self.now.members) }
+    {
+        let found = self.tree.first_in(group, steps);
+        copied(lesser_lent(in_group(&self.recent, group, steps), found, steps))
+    }
+
     /// The least key that is above this one, and the pid there. `None` exactly where no key is above it.
     pub fn next<L: Ledger>(&self, key: &Key, steps: &mut Steps<L>) -> Option<(Key, Pid)>
         ensures next { result ≡ next_of self.now.members key.now }
@@ -244,4 +255,33 @@ fn reaching<L: Ledger>(
     } else {
         None
     }
+}
+
+/// The entry, where its key is of this group or of a greater one.
+#[inline(always)]
+fn in_group<'a, L: Ledger>(
+    entry: &'a Option<(Key, Pid)>,
+    group: u64,
+    steps: &mut Steps<L>,
+) -> Option<(&'a Key, Pid)>
+    ensures reaching { lent result ≡ reaching true (start_of group) entry.now }
+    ensures counted { steps.new ≤ steps.old + 1 }
+{
+    let Some((key, pid)) = entry else {
+        return None;
+    };
+    steps.tick();
+    if key.is_below(&Key::start_of(group)) {
+        return None;
+    }
+    Some((key, *pid))
+}
+
+/// A copy of an entry whose key is lent.
+#[inline(always)]
+fn copied(entry: Option<(&Key, Pid)>) -> Option<(Key, Pid)>
+    ensures { result ≡ lent entry.entry }
+{
+    let (key, pid) = entry?;
+    Some((*key, pid))
 }

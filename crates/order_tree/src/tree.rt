@@ -1,11 +1,11 @@
 //! The tree: its nodes, and the walks that look for a key. How it keeps in balance stands in `balance`.
 
-ghost use Rattle.std.specs.Prelude.{◌≡◌, ◌≢◌, ◌+◌, ◌*◌, ◌≤◌, [], ◌++◌, length, ◌↔◌, IsTrue, None, MatchOption, if◌then◌else◌, slice_get, vec_capacity, map};
+ghost use Rattle.std.specs.Prelude.{◌≡◌, ◌≢◌, ◌+◌, ◌*◌, ◌≤◌, true, [], ◌++◌, length, ◌↔◌, IsTrue, None, MatchOption, if◌then◌else◌, slice_get, vec_capacity, map};
 ghost use Rattle.std.specs.List as list;
-ghost use Rattle.std.specs.Option.{option_map, option_or};
+ghost use Rattle.std.specs.Option.{option_map};
 ghost use Rattle.std.specs.FinMap.{find, put, is_sorted};
 ghost use Rattle.cs_types.specs.Comparisons.{digits};
-ghost use Rattle.order_tree.specs.Order.{key_cmp, stamped};
+ghost use Rattle.order_tree.specs.Order.{key_cmp, start_of, stamped};
 ghost use Rattle.order_tree.specs.Anew.{rekeyed};
 ghost use Rattle.order_tree.specs.Branch.{without, reaches};
 ghost use Rattle.order_tree.specs.Balance.{entry_in, entry_at, HasMany, IsRoot, HasFirst};
@@ -90,6 +90,13 @@ impl Node {
         (self.key, self.pid)
     }
 
+    /// Its entry, whose key is lent.
+    pub fn lend(&self) -> (&Key, Pid)
+        ensures { (result.0.now, result.1) ≡ entry_in self.now }
+    {
+        (&self.key, self.pid)
+    }
+
     /// Its pid.
     pub fn pid(&self) -> Pid
         ensures { result ≡ self.now.pid }
@@ -101,10 +108,7 @@ impl Node {
     pub fn hold(&mut self, key: Key, pid: Pid)
         ensures { entry_in self.new ≡ (key, pid) }
     {
-        self.key.group = key.group;
-        self.key.class = key.class;
-        self.key.rank = key.rank;
-        self.key.stamp = key.stamp;
+        self.key.set(&key);
         self.pid = pid;
     }
 }
@@ -153,26 +157,40 @@ impl Tree {
         Some(node)
     }
 
-    /// The node of the first entry whose key is above this one, or also at it where `at` is true. Where there is
-    /// none, `other`.
+    /// The node of the first entry whose key is above this one, or also at it where `at` is true. It is out of line,
+    /// since a loop within a caller keeps the compiler from seeing all that the caller writes.
     #[inline(never)]
-    pub fn seek<'a, L: Ledger>(
-        &'a self,
-        key: &Key,
-        at: bool,
-        other: Option<&'a Node>,
-        steps: &mut Steps<L>,
-    ) -> Option<&'a Node>
-        ensures found { entry_at result ≡ option_or (list.find (λ entry. reaches at (key_cmp entry.0 key.now)) self.now.entries) (entry_at other.entry) }
+    pub fn seek<L: Ledger>(&self, key: &Key, at: bool, steps: &mut Steps<L>) -> Option<&Node>
+        ensures found { entry_at result ≡ list.find (λ entry. reaches at (key_cmp entry.0 key.now)) self.now.entries }
+        ensures shallow { self.now.height ≤ 2 * digits (length self.now.entries) }
+        ensures counted { steps.new ≤ steps.old + self.now.height }
+    {
+        self.walk(key, at, steps)
+    }
+
+    /// The same for the least key of a group, or at it. A walk for it mostly reads the groups alone.
+    #[inline(never)]
+    pub fn first_in<L: Ledger>(&self, group: u64, steps: &mut Steps<L>) -> Option<&Node>
+        ensures found { entry_at result ≡ list.find (λ entry. reaches true (key_cmp entry.0 (start_of group))) self.now.entries }
+        ensures shallow { self.now.height ≤ 2 * digits (length self.now.entries) }
+        ensures counted { steps.new ≤ steps.old + self.now.height }
+    {
+        self.walk(&Key::start_of(group), true, steps)
+    }
+
+    /// The walk that both of these make.
+    #[inline(always)]
+    fn walk<L: Ledger>(&self, key: &Key, at: bool, steps: &mut Steps<L>) -> Option<&Node>
+        ensures found { entry_at result ≡ list.find (λ entry. reaches at (key_cmp entry.0 key.now)) self.now.entries }
         ensures shallow { self.now.height ≤ 2 * digits (length self.now.entries) }
         ensures counted { steps.new ≤ steps.old + self.now.height }
     {
         let mut tree = self;
-        let mut found = other;
+        let mut found = None;
         while let Some(node) = &tree.root {
             steps.tick();
             if reaches(node.key.cmp(key), at) {
-                found = Some(node);
+                found = Some(&**node);
                 tree = &node.left;
             } else {
                 tree = &node.right;

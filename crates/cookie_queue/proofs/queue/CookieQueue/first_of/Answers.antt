@@ -6,7 +6,7 @@ use Rattle.cookie_queue.proofs.queue.CookieQueue.first_of.Goals as goal
 pub returns-clause-first : goal.returns-clause-first
 returns-clause-first g c =
     rw (← c.self.view_is)
-    (c.queued_with.ensures ∙ ap (with_cookie c.args.cookie) c.first_from.ensures.first ∙ first_with-map_renamed c.self.inside.tree.members c.args.cookie)
+    (c.queued_with.ensures ∙ ap (with_cookie c.args.cookie) c.first_in.ensures.first ∙ first_with-map_renamed c.self.inside.tree.members c.args.cookie)
 
 pub returns-clause-counted : goal.returns-clause-counted
-returns-clause-counted g c = rw (← c.self.view_is, len-tasks_of c.self.inside.tree.members) c.first_from.ensures.counted
+returns-clause-counted g c = rw (← c.self.view_is, len-tasks_of c.self.inside.tree.members) c.first_in.ensures.counted

@@ -1,6 +1,6 @@
 use Rattle.std.proofs.Common.{Some, None, sym, ap, ◌∙◌}
 use Rattle.order_tree.specs.Order.{Entry}
-use Rattle.order_tree.proofs.Ranks.{least_with, least_rank-recent}
+use Rattle.order_tree.proofs.Ranks.{least_rank-recent}
 use Rattle.order_tree.proofs.recent.RecentTree.least_rank.Goals as goal
 
 pub returns-in_default-least_rank-clause-least : goal.returns-in_default-least_rank-clause-least

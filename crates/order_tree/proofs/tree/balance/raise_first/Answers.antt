@@ -1,8 +1,8 @@
-use Rattle.std.proofs.Common.{◌≡◌, ℕ, ◌+◌, max, ◌∷◌, ◌++◌, refl, sym, ap, ◌∙◌, subst}
+use Rattle.std.proofs.Common.{◌≡◌, ℕ, ◌+◌, max, ◌∷◌, ◌++◌, refl, sym, ap, ◌∙◌}
 use Rattle.order_tree.specs.Order.{Entry}
-use Rattle.order_tree.specs.Balance.{entry_in, branch_of, IsBalanced, IsNode}
+use Rattle.order_tree.specs.Balance.{entry_in, branch_of, IsNode}
 use Rattle.order_tree.specs.declared.tree.Node.{Node}
-use Rattle.order_tree.proofs.Placed.{IsNode-from, sides-raised, leans-right, sinks-right, not_empty, uprooted-by, taken-left}
+use Rattle.order_tree.proofs.Placed.{IsNode-from, sides-raised, leans-right, sinks-right, uprooted-by}
 use Rattle.order_tree.proofs.Heights.{level_kept, level_lost, lowered, no_more}
 use Rattle.order_tree.proofs.Forks.{IsEven-from}
 use Rattle.order_tree.proofs.Firsts.{first-in}

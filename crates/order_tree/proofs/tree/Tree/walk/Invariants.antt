@@ -3,11 +3,11 @@ use Rattle.std.specs.Option.{option_or}
 use Rattle.cs_types.specs.Comparisons.{digits}
 use Rattle.order_tree.specs.Balance.{entry_at}
 use Rattle.order_tree.proofs.Placed.{sought}
-use Rattle.order_tree.proofs.tree.Tree.seek.Given as goal
+use Rattle.order_tree.proofs.tree.Tree.walk.Given as goal
 
 abbrev pub invariant-loop-tree : goal.invariant-loop-tree
 invariant-loop-tree g l = record {
-  found : option_or (sought l.key l.at l.tree.entries) (entry_at l.found) ≡ option_or (sought l.key l.at l.self.entries) (entry_at l.other);
+  found : option_or (sought l.key l.at l.tree.entries) (entry_at l.found) ≡ sought l.key l.at l.self.entries;
   shallow : l.tree.height ≤ 2 * digits (length l.tree.entries) → l.self.height ≤ 2 * digits (length l.self.entries);
   counted : l.steps + l.tree.height ≤ l.initial.steps + l.self.height;
 }

@@ -1,0 +1,12 @@
+use Rattle.std.proofs.Common.{sym, ◌∙◌}
+use Rattle.order_tree.specs.Order.{start_of}
+use Rattle.order_tree.proofs.Members.{first_from-from_sorted, within}
+use Rattle.order_tree.proofs.order.OrderTree.first_in.Goals as goal
+
+pub returns-clause-first : goal.returns-clause-first
+returns-clause-first g c =
+    rw (← c.self.view_is) (c.lend.ensures ∙ c.first_in.ensures.found ∙ sym (first_from-from_sorted c.self.inside.tree.entries c.self.invariant.rising (start_of c.args.group)))
+
+pub returns-clause-counted : goal.returns-clause-counted
+returns-clause-counted g c =
+    rw (← c.self.view_is) (within c.self.inside.tree.entries c.self.invariant.rising _ _ _ c.first_in.ensures.counted c.first_in.ensures.shallow)
