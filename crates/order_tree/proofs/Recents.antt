@@ -1,5 +1,5 @@
 -- A tree beside which an entry stands: what is found of both, and what is left where one is taken out.
-use Rattle.std.proofs.Common.{◌≡◌, ℕ, ◌+◌, ◌-◌, ◌*◌, ◌≤◌, Bool, true, false, cond, List, [], ◌∷◌, ◌++◌, map, Option, None, Some, refl, sym, ap, ◌∙◌, subst, inl, inr, arith}
+use Rattle.std.proofs.Common.{◌<◌, ◌≡◌, ℕ, ◌+◌, ◌-◌, ◌*◌, ◌≤◌, Bool, true, false, cond, List, [], ◌∷◌, ◌++◌, map, Option, None, Some, refl, sym, ap, ◌∙◌, subst, inl, inr, arith}
 use Rattle.std.specs.Prelude.{slice_get, is_some}
 use mir.Val.{bool_byte}
 use Rattle.std.specs.List as list
@@ -197,6 +197,57 @@ module _ (key : Key) where
                   sym (cond-false _ (Some entry.1) (get tree.members query) (ap (eq_by_cmp key_cmp query) (sym same) ∙ differs))
                   ∙ sym (cond-false _ None (cond (eq_by_cmp key_cmp query entry.0) (Some entry.1) (get tree.members query)) differs)
             ]
+
+  -- ---- what there is where a pid is put into the tree
+
+  -- a key that is free is not that of the entry beside the tree
+  not_at : (entry : Entry) (tree : Ordered) → get (fin.insert tree.members entry.0 entry.1) key ≡ None → eq_by_cmp key_cmp key entry.0 ≡ true → ⊥
+  not_at entry tree free tie =
+      let both : Some entry.1 ≡ None =
+      sym (cond-true _ (Some entry.1) (get tree.members key) tie) ∙ sym (get-insert key_total tree.members entry.0 entry.1 key) ∙ free in
+      cc
+
+  -- nor one of the tree's
+  pub free-in : (recent : Option Entry) (tree : Ordered) → get (with_recent recent tree.members) key ≡ None → get tree.members key ≡ None
+  free-in None tree free = free
+  free-in (Some entry) tree free = elim (cases_Bool (eq_by_cmp key_cmp key entry.0)) [
+    | inl tie ↦ absurd (not_at entry tree free tie)
+    | inr differs ↦
+        sym (cond-false _ (Some entry.1) (get tree.members key) differs) ∙ sym (get-insert key_total tree.members entry.0 entry.1 key) ∙ free
+  ]
+
+  pub insert-apart : (pid : ℕ) (recent : Option Entry) (tree : Ordered) → get (with_recent recent tree.members) key ≡ None →
+      with_recent recent (fin.insert tree.members key pid) ≡ fin.insert (with_recent recent tree.members) key pid
+  insert-apart pid None tree free = refl
+  insert-apart pid (Some entry) tree free =
+      same_map key_total key_cmp-IsAntisymmetric _ _ (λ query.
+      get-insert key_total (fin.insert tree.members key pid) entry.0 entry.1 query
+      ∙ ap (cond (eq_by_cmp key_cmp query entry.0) (Some entry.1)) (get-insert key_total tree.members key pid query)
+      ∙ swapped (eq_by_cmp key_cmp query entry.0) (eq_by_cmp key_cmp query key) (Some entry.1) (Some pid) (get tree.members query) (never query)
+      ∙ ap (cond (eq_by_cmp key_cmp query key) (Some pid)) (sym (get-insert key_total tree.members entry.0 entry.1 query))
+      ∙ sym (get-insert key_total (fin.insert tree.members entry.0 entry.1) key pid query)) where
+        never : (query : Key) → eq_by_cmp key_cmp query entry.0 ≡ true → eq_by_cmp key_cmp query key ≡ true → ⊥
+        never query one other =
+            let same = key_cmp-IsAntisymmetric query key (equal_by _ other) in
+            not_at entry tree free (ap (λ k. eq_by_cmp key_cmp k entry.0) (sym same) ∙ one)
+
+  pub StandsBeside-insert : (pid : ℕ) (recent : Option Entry) (tree after : Ordered) → StandsBeside recent tree → get (with_recent recent tree.members) key ≡ None →
+      after.members ≡ fin.insert tree.members key pid → option_len recent < tree.spare → after.spare + 1 ≡ tree.spare → StandsBeside recent after
+  StandsBeside-insert pid None tree after beside free is spare fewer = tt
+  StandsBeside-insert pid (Some entry) tree after beside free is spare fewer = record {
+    free =
+        ap (λ (m : Members). get m entry.0) is ∙ get-insert key_total tree.members key pid entry.0
+        ∙ cond-false _ (Some pid) (get tree.members entry.0) apart
+        ∙ beside.free;
+    spare = omega (arith, spare, fewer);
+  } where
+    apart : eq_by_cmp key_cmp entry.0 key ≡ false
+    apart = elim (cases_Bool (eq_by_cmp key_cmp entry.0 key)) [
+      | inl tie ↦
+          let same = key_cmp-IsAntisymmetric entry.0 key (equal_by _ tie) in
+          absurd (not_at entry tree free ((λ i. eq_by_cmp key_cmp (sym same i) (same i)) ∙ tie))
+      | inr differs ↦ differs
+    ]
 
   pub remove-apart : (recent : Option Entry) (tree : Ordered) → is_at recent key ≡ false →
       with_recent recent (fin.remove tree.members key) ≡ fin.remove (with_recent recent tree.members) key

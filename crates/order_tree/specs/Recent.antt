@@ -1,5 +1,5 @@
 -- Recent: a tree beside which an entry stands that was put last. No public clause cites this module.
-use Rattle.std.specs.Prelude.{◌≡◌, ℕ, ◌-◌, ◌<◌, ◌==◌, Bool, false, Option, Some, None, IfSome, if◌then◌else◌}
+use Rattle.std.specs.Prelude.{◌≡◌, ℕ, ◌-◌, ◌<◌, ◌==◌, Bool, false, not, Option, Some, None, IfSome, if◌then◌else◌}
 use Rattle.std.specs.FinMap.{get, insert}
 use Rattle.std.specs.Option.{option_len, option_map}
 use Rattle.std.specs.Borrow.{Bor}
@@ -33,6 +33,11 @@ StandsBeside recent tree = IfSome recent (IsBeside tree)
 abbrev pub is_at : Option Entry → Key → Bool
 is_at None key = false
 is_at (Some entry) key = eq_by_cmp key_cmp key entry.0
+
+-- whether a key is not below that of the entry
+abbrev pub is_past : Option Entry → Key → Bool
+is_past None key = false
+is_past (Some entry) key = not (is_lt (key_cmp key entry.0))
 
 -- the entry, where its key is above another, or maybe at it
 abbrev pub reaching : Bool → Key → Option Entry → Option Entry

@@ -9,7 +9,7 @@ ghost use Rattle.cs_types.specs.Comparisons.{most_comparisons};
 ghost use Rattle.order_tree.specs.Anew.{rekeyed};
 ghost use Rattle.order_tree.specs.Order.{key_cmp, start_of, stamped, first_of, first_from, next_of};
 ghost use Rattle.order_tree.specs.Rank.{IsOfClass};
-ghost use Rattle.order_tree.specs.Recent.{lent, reaching, is_at};
+ghost use Rattle.order_tree.specs.Recent.{lent, reaching, is_at, is_past};
 
 use crate::key::Key;
 use crate::movers::Movers;
@@ -27,7 +27,7 @@ use std::sync::ledger::Ledger;
 #[derive(Drop)]
 pub struct RecentTree {
     tree: OrderTree,
-    /// What was put last, where it was not taken out since.
+    /// What was put last, where it was not taken out since, or what others were put behind since.
     recent: Option<(Key, Pid)>,
 }
 
@@ -71,7 +71,8 @@ impl RecentTree {
         self.tree.reserve(most)
     }
 
-    /// Puts a pid at a key where none is.
+    /// Puts a pid at a key where none is. Where it is put behind the one beside the tree, it goes into the tree: the other
+    /// is the one that is likely to run, and then its key changes next.
     #[inline(always)]
     pub fn insert<L: Ledger>(&mut self, key: Key, pid: Pid, steps: &mut Steps<L>)
         requires spare { 0 < self.old.spare }
@@ -79,6 +80,22 @@ impl RecentTree {
         ensures members { self.new.members ≡ map.insert self.old.members key pid }
         ensures spare { self.new.spare + 1 ≡ self.old.spare }
         ensures counted { steps.new ≤ steps.old + most_comparisons (map.len self.old.members) }
+    {
+        if is_past(&self.recent, &key, steps) {
+            self.tree.insert(key, pid, steps);
+            return;
+        }
+        self.put_beside(key, pid, steps);
+    }
+
+    /// Puts a pid at a key where none is. It stands beside the tree then, and what stood there goes into it.
+    #[inline(always)]
+    fn put_beside<L: Ledger>(&mut self, key: Key, pid: Pid, steps: &mut Steps<L>)
+        requires spare { 0 < self.old.spare }
+        requires free { map.get self.old.members key ≡ None }
+        ensures members { self.new.members ≡ map.insert self.old.members key pid }
+        ensures spare { self.new.spare + 1 ≡ self.old.spare }
+        ensures counted { steps.new + 1 ≤ steps.old + most_comparisons (map.len self.old.members) }
     {
         let Some((last, other)) = &mut self.recent else {
             self.recent = Some((key, pid));
@@ -105,7 +122,8 @@ impl RecentTree {
         self.tree.remove(&Key { ..*key }, steps)
     }
 
-    /// The pid at a key, which is there, has another rank, at which none is. Where it was put last nothing moves.
+    /// The pid at a key, which is there, gets another rank, at which none has the rest of its key. Where it
+    /// stands beside the tree, it stays there.
     #[inline(always)]
     pub fn set_rank<L: Ledger>(&mut self, key: &Key, rank: u128, pid: Pid, steps: &mut Steps<L>)
         requires there { IsTrue (map.contains_key self.old.members key.now) }
@@ -124,7 +142,7 @@ impl RecentTree {
             return;
         }
         self.tree.remove(&Key { ..*key }, steps);
-        self.insert(Key { rank, ..*key }, pid, steps);
+        self.put_beside(Key { rank, ..*key }, pid, steps);
     }
 
     /// Takes out all pids. It compares no key.
@@ -234,6 +252,19 @@ fn is_at<L: Ledger>(entry: &Option<(Key, Pid)>, key: &Key, steps: &mut Steps<L>)
     };
     steps.tick();
     key.cmp(other).is_eq()
+}
+
+/// Whether there is an entry, and the key is not below its.
+#[inline(always)]
+fn is_past<L: Ledger>(entry: &Option<(Key, Pid)>, key: &Key, steps: &mut Steps<L>) -> bool
+    ensures past { result ≡ is_past entry.now key.now }
+    ensures counted { steps.new ≤ steps.old + 1 }
+{
+    let Some((other, _)) = entry else {
+        return false;
+    };
+    steps.tick();
+    !key.is_below(other)
 }
 
 /// The entry, where its key is above this one, or also at it where `at` is true.

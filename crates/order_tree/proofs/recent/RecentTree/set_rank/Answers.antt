@@ -34,7 +34,7 @@ returns-then-is_at-clause-members g c =
 -- ---- where it is not
 
 -- what is left while it is out
-module _ (g : given.Over) (c : goal.After-insert-arg-2-1 g) where
+module _ (g : given.Over) (c : goal.After-put_beside-arg-2-1 g) where
   apart : is_at c.self.inside.recent c.args.key.now ≡ false
   apart = sym c.is_at.ensures.at ∙ c.if-is_at.false
 
@@ -57,23 +57,23 @@ invariant_of-self-2 g c =
     StandsBeside-remove c.args.key.now c.self.inside.recent c.self.inside.tree c.remove.new.self c.self.invariant c.remove.ensures.members
     (omega (arith, c.remove.ensures.spare))
 
-pub insert-requires-clause-spare : goal.insert-requires-clause-spare
-insert-requires-clause-spare g c = omega (arith, one_more g c, fits g c)
+pub put_beside-requires-clause-spare : goal.put_beside-requires-clause-spare
+put_beside-requires-clause-spare g c = omega (arith, one_more g c, fits g c)
 
-pub insert-requires-clause-free : goal.insert-requires-clause-free
-insert-requires-clause-free g c =
+pub put_beside-requires-clause-free : goal.put_beside-requires-clause-free
+put_beside-requires-clause-free g c =
     ap (λ (m : Members). fin.get m (record c.args.key.now { rank = c.args.rank })) (left g c) ∙ (rw (← c.self.view_is) at c.requires.free)
 
 pub returns-clause-members : goal.returns-clause-members
 returns-clause-members g c =
     rw (← c.self.view_is)
-    (c.insert.ensures.members ∙ ap (λ (m : Members). fin.insert m (record c.args.key.now { rank = c.args.rank }) c.args.pid) (left g c.before))
+    (c.put_beside.ensures.members ∙ ap (λ (m : Members). fin.insert m (record c.args.key.now { rank = c.args.rank }) c.args.pid) (left g c.before))
 
 pub returns-clause-spare : goal.returns-clause-spare
-returns-clause-spare g c = rw (← c.self.view_is) (omega (arith, c.insert.ensures.spare, one_more g c.before, fits g c.before))
+returns-clause-spare g c = rw (← c.self.view_is) (omega (arith, c.put_beside.ensures.spare, one_more g c.before, fits g c.before))
 
 pub returns-clause-counted : goal.returns-clause-counted
 returns-clause-counted g c =
     let within = within-recent c.self.inside.recent c.self.inside.tree c.self.invariant c.args.steps.now c.remove.new.steps
     (omega (arith, c.is_at.ensures.counted, c.remove.ensures.counted)) in
-    rw (← c.self.view_is, ← left g c.before) (omega (arith, within, c.insert.ensures.counted))
+    rw (← c.self.view_is, ← left g c.before) (omega (arith, within, c.put_beside.ensures.counted))
