@@ -72,6 +72,7 @@ impl CookieQueue {
 
     /// Takes a task out (`sched_core_dequeue`). `false` comes exactly where it is not there, and then
     /// nothing changes.
+    #[inline(always)]
     pub fn take<L: Ledger>(&mut self, task: &Queued, steps: &mut Steps<L>) -> bool
         requires ranked { IsRanked task.now }
         requires same { IfSome (map.get self.old.tasks (spot_of task.now)) (λ pid. pid ≡ task.now.pid) }

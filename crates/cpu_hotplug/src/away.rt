@@ -17,13 +17,14 @@ use cs_types::Cpu;
 pub fn online_count<Q: SiblingQueue>(core: &Core<Q>) -> u8
     ensures { (beside : Beside) (table : Table) → result ≡ length (siblings_online (room_of beside (core.now, table))) }
 {
-    let mut count = 0;
+    // In words, since a count in bytes of so few is made a vector's, which takes longer.
+    let mut count: usize = 0;
     for lane in core.lanes.iter() {
         if lane.online {
             count += 1;
         }
     }
-    count
+    count as u8
 }
 
 /// The lowest other sibling that is online.
