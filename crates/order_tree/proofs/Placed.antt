@@ -1,6 +1,6 @@
 -- A tree that was taken apart: where a key goes, and what a change of a side makes of the whole.
 use Rattle.std.proofs.Common.{◌≡◌, ℕ, ◌+◌, ◌*◌, ◌<◌, ◌≤◌, Bool, true, false, cond, List, ◌∷◌, ◌++◌, Box, Option, None, Some, length, max, refl, sym, ap, ◌∙◌, subst, arith, length-append, MatchOption}
-use Rattle.std.specs.Prelude.{[], IsTrue, is_some, slice_get}
+use Rattle.std.specs.Prelude.{[], IsTrue, is_some}
 use Rattle.std.specs.FinMap.{find, put, is_sorted}
 use Rattle.std.specs.Ordering.{is_lt}
 use Rattle.std.specs.Cmp.{tied_itself}
@@ -208,11 +208,6 @@ module _ {whole left : Branch} {entry : Entry} {right : Branch} (root : IsRoot w
 -- so a call for a side falls below the tree's measure
 pub falls : (side whole measure : ℕ) → side < whole → 2 * (whole + 1) + 0 ≡ measure → 2 * (side + 1) + 0 < measure
 falls side whole measure short is = omega arith
-
--- what stands first where the left side is not empty
-pub first-joined : (left right : List Entry) (entry : Entry) → (left ≡ [] → ⊥) → slice_get (left ++ entry ∷ right) 0 ≡ slice_get left 0
-first-joined [] right entry some = absurd (some refl)
-first-joined (e ∷ left) right entry some = refl
 
 -- entries that a call says are not empty
 pub not_empty : {es : List Entry} (empty : Bool) → (IsTrue empty → es ≡ []) × (es ≡ [] → IsTrue empty) → empty ≡ false → es ≡ [] → ⊥

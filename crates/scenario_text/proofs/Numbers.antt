@@ -1,6 +1,5 @@
 -- Numbers: a word that is a number is the decimal of its value, and the decimal of a number has that value.
-use Rattle.std.proofs.Common.{w64, ◌-ℤ◌, ◌≡◌, ◌∙◌, ℕ, Bool, zero, suc, ◌+◌, ◌*◌, ◌^◌, ◌<◌, ◌≤◌, true, false, eqb, leb, List, [], ◌∷◌, length, get_or, take, refl, sym, ap, arith, ◌⊎◌, inl, inr}
-use mir.Val.{to_z, of_z}
+use Rattle.std.proofs.Common.{◌≡◌, ◌∙◌, ℕ, Bool, zero, suc, ◌+◌, ◌*◌, ◌^◌, ◌<◌, ◌≤◌, true, false, eqb, leb, List, [], ◌∷◌, length, get_or, take, refl, sym, ap, arith, ◌⊎◌, inl, inr}
 use Rattle.std.specs.Prelude.{decimal, ◌-◌, ◌&&◌, ◌||◌, not, ℤ, pos, negsuc}
 use Rattle.std.specs.List.{list_all}
 use Rattle.std.specs.Char.{is_ascii_digit, digit_value}
@@ -10,9 +9,7 @@ use Rattle.std.proofs.lemmas.Bool.{cases_eq, ne_eqb, and_parts, leb-true, le-leb
 use Rattle.std.proofs.lemmas.Bool.Decides.{nat_tests}
 use Rattle.std.proofs.lemmas.List.Folds.{list_all_more}
 use Rattle.std.proofs.lemmas.Int.Digits.{digits_value_more}
-use Rattle.std.proofs.lemmas.Int.{to_z-of_z, to_z_pos}
 use Rattle.std.proofs.Math.Bool.{and-false}
-use Rattle.std.proofs.Math.IntN.{+ℤ_idl}
 use Rattle.std.proofs.lemmas.Str.Parse.{IsNumeralModel, numerals_by_value, tells_all_ascii_digits, digit_at, digits_value-take-le}
 use Rattle.std.proofs.lemmas.Fmt.{decimal_digit, decimal_is_IsNumeral, first_decimal, decimal-digits_value}
 use Rattle.cs_types.specs.Scenario.{IsWithin}
@@ -157,13 +154,3 @@ not_digits low high word small (inr large) = no_number low high word (λ parts. 
 pub right_digits : (low high : ℕ) (word : Word) → is_canonical word ≡ true → all_ascii_digits word ≡ true → is_number low high word ≡ (leb low (value word) && leb (value word) high)
 unfolding is_number
 right_digits low high word first digits = rw (first, digits) refl
-
--- the negative of a number of 63 bits
-pub negated : (n : ℕ) → 1 ≤ n → n < 2 ^ 63 → to_z w64 (of_z w64 (pos 0 -ℤ to_z w64 n)) ≡ negsuc (n - 1)
-negated zero some small = absurd (omega arith)
-negated (suc n) some small =
-    let whole : suc n - 1 ≡ n = omega arith in
-    ap (λ (z : ℤ). to_z w64 (of_z w64 (pos 0 -ℤ z))) (to_z_pos w64 (suc n) small)
-    ∙ ap (λ (z : ℤ). to_z w64 (of_z w64 z)) (+ℤ_idl (negsuc n))
-    ∙ to_z-of_z w64 (negsuc n) (record { sfits = omega arith })
-    ∙ ap negsuc (sym whole)

@@ -1,11 +1,11 @@
-use Rattle.std.proofs.Common.{◌≡◌, refl, ap, sym, ◌∙◌}
+use Rattle.std.proofs.Common.{refl, ap, sym, ◌∙◌}
 use Rattle.std.specs.Prelude.{is_some}
 use Rattle.std.specs.FinMap as fin
 use Rattle.cs_types.specs.Queue.{Spots, spot_of}
 use Rattle.order_tree.specs.Order.{Members}
 use Rattle.order_tree.specs.declared.key.Key.{Key}
 use Rattle.cookie_queue.specs.Inside.{key_at}
-use Rattle.cookie_queue.proofs.Cookies.{tasks_of, get-tasks_of, tasks_of-insert, tasks_of-remove, len-tasks_of}
+use Rattle.cookie_queue.proofs.Cookies.{get-tasks_of, tasks_of-insert, tasks_of-remove, len-tasks_of}
 use Rattle.cookie_queue.proofs.queue.CookieQueue.set_rank.Goals as goal
 
 pub set_rank-requires-clause-there : goal.set_rank-requires-clause-there
