@@ -6,19 +6,19 @@ use Rattle.core_lanes.specs.declared.queue.SiblingQueue.{Ghosts}
 use Rattle.core_tasks.specs.declared.state.State.{State}
 
 -- The most calls of a queue that an event takes, by the number of siblings and of living tasks. A schedule asks each sibling
--- twice, a steal try passes over the tasks with the core cookie on one sibling, and a task that changes may leave its queue and
--- enter it again.
+-- twice, and a steal try passes over the tasks with the core cookie on one sibling. A task that wakes enters its queue, one that
+-- sleeps leaves it, and one that changes may leave it and enter it again.
 abbrev pub most_calls : ℕ → ℕ → Event → ℕ
 most_calls siblings tasks (Turn _) = max (2 * siblings) (tasks + 4)
 most_calls siblings tasks (Resched _) = 2 * siblings
-most_calls siblings tasks (Block _) = 2 + 2 * siblings
+most_calls siblings tasks (Block _) = 1 + 2 * siblings
 most_calls siblings tasks (Exit _) = 2 + 2 * siblings
 most_calls siblings tasks (Tick _) = 3
-most_calls siblings tasks (Wake _) = 2
+most_calls siblings tasks (Wake _) = 1
 most_calls siblings tasks (Advance _) = 3 * siblings
-most_calls siblings tasks (Fork _ _) = 2
+most_calls siblings tasks (Fork _ _) = 1
 most_calls siblings tasks (Prctl _ _) = tasks
-most_calls siblings tasks (SetSched _ _) = 4
+most_calls siblings tasks (SetSched _ _) = 3
 most_calls siblings tasks (Offline _) = tasks + 1
 most_calls siblings tasks (Online _) = 0
 most_calls siblings tasks (Load _) = 0

@@ -88,7 +88,7 @@ fn requeue<Q: SiblingQueue, L: Ledger>(
 )
     requires { MayQueue now 2 (core.old, table.old) task }
     ensures touches { TouchesAt now 2 (core.old, table.old) (core.new, table.new) (λ room. requeue room task) }
-    ensures counted { ComparesFor 4 (core.old, table.old) steps.old steps.new }
+    ensures counted { ComparesFor 3 (core.old, table.old) steps.old steps.new }
 {
     let runs = core.lanes[task.home as usize].runs(task.spec.pid);
     core.dequeue(table, task, steps);

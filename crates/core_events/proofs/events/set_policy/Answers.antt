@@ -92,7 +92,7 @@ returns-in_default-clause-makes g c = leaves_all c.args.state.now (SetSched c.ar
     ap (set_policy (room_with intervals c.args.state.now) c.args.policy) c.in_default.ensures.task)
 
 pub returns-then-task-clause-counted : goal.returns-then-task-clause-counted
-returns-then-task-clause-counted g c = for_event g.met.Q.SiblingQueue.rises 4 c.args.state.now (SetSched c.args.pid c.args.policy) _ _ (omega arith) c.requeue.ensures.counted
+returns-then-task-clause-counted g c = for_event g.met.Q.SiblingQueue.rises 3 c.args.state.now (SetSched c.args.pid c.args.policy) _ _ (omega arith) c.requeue.ensures.counted
 
 pub returns-else-task-clause-counted : goal.returns-else-task-clause-counted
 returns-else-task-clause-counted g c = for_event g.met.Q.SiblingQueue.rises 2 c.args.state.now (SetSched c.args.pid c.args.policy) _ _ (omega arith) c.change.ensures.counted
