@@ -10,7 +10,7 @@ use Rattle.std.specs.Str.{all_ascii_digits}
 use Rattle.std.specs.Result.{result_ok}
 use Rattle.std.proofs.lemmas.Fmt.{decimal_digit}
 use Rattle.std.proofs.lemmas.Int.{to_z_pos}
-use Rattle.std.proofs.lemmas.List.{length-drop, take-append-drop, take-take}
+use Rattle.std.proofs.lemmas.List.{length-drop}
 use Rattle.std.proofs.lemmas.Bool.Decides.{nat_tests}
 use Rattle.std.proofs.lemmas.List.Splits.{slice_split_at, join_with_byte-slice_split}
 use Rattle.cs_types.specs.declared.event.Actor.{Actor}
@@ -133,17 +133,6 @@ digit_before_is high n end text rest small most is =
 -- what stands behind the first bytes of a text is all of it
 whole : (n : ℕ) (text : List ℕ) → drop n text ≡ behind_first n text
 whole n text = sym (take_all (length text - n) (drop n text) (omega (arith, length-drop n text)))
-
--- two words of four to eight bytes are the same where the first four bytes are, and the last four
-pub same_word : (front word : List ℕ) → length front ≡ length word → 4 ≤ length word → length word ≤ 8 → take 4 front ≡ take 4 word → take 4 (behind_first (length word - 4) front) ≡ take 4 (behind_first (length word - 4) word) → front ≡ word
-same_word front word long some few first last =
-    let n = length word - 4 in
-    let whole_last : (w : List ℕ) → length w ≡ length word → take 4 (behind_first n w) ≡ drop n w = λ w same. ap (take 4) (sym (whole n w)) ∙ take_all 4 (drop n w) (omega (arith, length-drop n w)) in
-    let first_of : (w : List ℕ) → take n (take 4 w) ≡ take n w = λ w. take-take n 4 w (omega arith) in
-    sym (take-append-drop n front)
-    ∙ ap (λ (bytes : List ℕ). bytes ++ drop n front) (sym (first_of front) ∙ ap (take n) first ∙ first_of word)
-    ∙ ap (λ (bytes : List ℕ). take n word ++ bytes) (sym (whole_last front long) ∙ last ∙ whole_last word refl)
-    ∙ take-append-drop n word
 
 -- the first byte of a text
 pub one_is : (text : List ℕ) (a : ℕ) → 1 ≤ length text → get_or text 0 0 ≡ a → text ≡ a ∷ behind_first 1 text

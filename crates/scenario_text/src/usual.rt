@@ -29,16 +29,14 @@ fn four(bytes: &[u8]) -> u32
     u32::from_le_bytes([bytes[0], bytes[1], bytes[2], bytes[3]])
 }
 
-/// What stands behind this word of four to eight bytes, where the text begins with it. The first four of its bytes and the
-/// last four, which may be some of the same, are all of it.
+/// What stands behind this word of four bytes or more, where the text begins with it.
 #[inline(always)]
 fn behind<'a>(text: &'a [u8], word: &[u8]) -> Option<&'a [u8]>
-    requires { IsWithin 4 8 (length word.now) }
+    requires { 4 ≤ length word.now }
     ensures { IfSome result (λ rest. text.now ≡ word.now ++ rest.now) }
 {
     let (front, rest) = text.split_at_checked(word.len())?;
-    let last = word.len() - 4;
-    if four(front) != four(word) || four(&front[last..]) != four(&word[last..]) {
+    if four(front) != four(word) || front[4..] != word[4..] {
         return None;
     }
     Some(rest)
