@@ -2,7 +2,7 @@
 //! `wake`, `advance`, `prctl`, `fork`, `setsched`, `offline` and `online`. It is separate from the forms of lines,
 //! which say the same of these and have all others.
 
-ghost use Rattle.std.specs.Prelude.{◌≡◌, ℕ, ◌<◌, ◌≤◌, ◌-◌, [], ◌∷◌, ◌++◌, length, take, codes, IfSome};
+ghost use Rattle.std.specs.Prelude.{◌≡◌, ℕ, ◌<◌, ◌≤◌, ◌-◌, [], ◌∷◌, ◌++◌, length, take, codes, IfSome, IsTrue};
 ghost use Rattle.std.specs.Int.{w32, to_le_bytes};
 ghost use Rattle.cs_types.specs.declared.event.Actor.TheVariants.{Sibling};
 ghost use Rattle.cs_types.specs.Scenario.{IsWithin};
@@ -29,6 +29,20 @@ fn four(bytes: &[u8]) -> u32
     u32::from_le_bytes([bytes[0], bytes[1], bytes[2], bytes[3]])
 }
 
+/// Whether these bytes are those of the word, one by one: they are few, and a comparison of slices is a call.
+#[inline(always)]
+fn are_same(bytes: &[u8], word: &[u8]) -> bool
+    requires { length bytes.now ≡ length word.now }
+    ensures { IsTrue result → bytes.now ≡ word.now }
+{
+    for place in 0..word.len() {
+        if bytes[place] != word[place] {
+            return false;
+        }
+    }
+    true
+}
+
 /// What stands behind this word of four bytes or more, where the text begins with it.
 #[inline(always)]
 fn behind<'a>(text: &'a [u8], word: &[u8]) -> Option<&'a [u8]>
@@ -36,7 +50,7 @@ fn behind<'a>(text: &'a [u8], word: &[u8]) -> Option<&'a [u8]>
     ensures { IfSome result (λ rest. text.now ≡ word.now ++ rest.now) }
 {
     let (front, rest) = text.split_at_checked(word.len())?;
-    if four(front) != four(word) || front[4..] != word[4..] {
+    if four(front) != four(word) || !are_same(&front[4..], &word[4..]) {
         return None;
     }
     Some(rest)
