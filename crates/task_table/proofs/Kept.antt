@@ -295,14 +295,6 @@ module _ {slots : Slab Task} {entries : List Entry} {threads processes : List Sp
       let there = found_some pid slot.position slot.entry slot.at slot.is in
       (there.0, ap (get slots) (sym slot.slot) ∙ there.1, sym (found pid slot.position slot.entry slot.at slot.is) ∙ there.1, there.2)
 
-  -- entries that are seen by another name
-  pub kept_seen : {seen : List Entry} → seen ≡ entries → IsKept slots seen threads processes room limit tasks
-  kept_seen is = subst (λ es. IsKept slots es threads processes room limit tasks) (sym is) kept
-
-  pub slot_seen : {seen : List Entry} {key pid : ℕ} → seen ≡ entries →
-      ((ts ps : List Span) (r l : ℕ) (xs : List Task) → IsKept slots seen ts ps r l xs → IsSlotOf key pid seen xs) → IsSlotOf key pid entries tasks
-  slot_seen {seen} {key} {pid} is told = subst (λ es. IsSlotOf key pid es tasks) is (told _ _ _ _ _ (kept_seen is))
-
   -- which is the task in the slot
   pub found_in : {key pid : ℕ} (task : Task) → IsSlotOf key pid entries tasks → get slots key ≡ Some task →
       (find (has_pid pid) tasks ≡ Some task) × (task.spec.pid ≡ pid)

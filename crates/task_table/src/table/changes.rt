@@ -59,11 +59,12 @@ fn regroup(entry: &mut Entry, threads: &mut Spans, processes: &mut Spans, spec: 
     entry.pgid = spec.pgid;
 }
 
-/// The slot of the task with the pid. `None` exactly where there is none.
+/// The slot of the task with the pid. `None` exactly where there is none. It is handed the vector of the entries, since to
+/// read where these stand is a cost of its own, and only a search needs it.
 #[inline(always)]
-fn slot_of(slots: &Slab<Task>, entries: &[Entry], places: &Places, pid: Pid) -> Option<usize>
-    ensures { (threads processes : List SomeSpan) (room limit : ℕ) (tasks : List SomeTask) → IsKept slots.now entries.now threads processes room limit tasks →
-        MatchOption result (find (has_pid pid) tasks ≡ None) (λ key. IsSlotOf key pid entries.now tasks) }
+fn slot_of(slots: &Slab<Task>, entries: &Vec<Entry>, places: &Places, pid: Pid) -> Option<usize>
+    ensures { (threads processes : List SomeSpan) (room limit : ℕ) (tasks : List SomeTask) → IsKept slots.now entries.now.items threads processes room limit tasks →
+        MatchOption result (find (has_pid pid) tasks ≡ None) (λ key. IsSlotOf key pid entries.now.items tasks) }
 {
     let key = places.slot_of(pid);
     match slots.get(key) {

@@ -7,27 +7,27 @@ use Rattle.task_table.specs.Table.{Table}
 use Rattle.task_table.specs.Inside.{groups_of, IsSlotOf, IsKept}
 use Rattle.task_table.proofs.Rising.{changed_none}
 use Rattle.task_table.proofs.Tables.{none_found}
-use Rattle.task_table.proofs.Kept.{kept_of, kept_again, seen_as, kept_seen, slot_seen, task_in, found_in, kept_edited}
+use Rattle.task_table.proofs.Kept.{kept_of, kept_again, seen_as, task_in, found_in, kept_edited}
 use Rattle.task_table.proofs.table.TaskTable.change.Goals as goal
 
 pub returns-in_default-clause-old : goal.returns-in_default-clause-old
 returns-in_default-clause-old c =
-    sym (c.in_default.ensures _ _ _ _ _ (kept_seen (kept_of _ _ _ _ _ _ _ c.self.view_is c.self.invariant) c.deref.ensures.value))
+    sym (c.in_default.ensures _ _ _ _ _ (kept_of _ _ _ _ _ _ _ c.self.view_is c.self.invariant))
 
 pub returns-in_default-clause-changed : goal.returns-in_default-clause-changed
 returns-in_default-clause-changed c =
     let pid = c.args.task.spec.pid in
     let tasks = c.args.self.now.tasks in
-    let none = c.in_default.ensures _ _ _ _ _ (kept_seen (kept_of _ _ _ _ _ _ _ c.self.view_is c.self.invariant) c.deref.ensures.value) in
+    let none = c.in_default.ensures _ _ _ _ _ (kept_of _ _ _ _ _ _ _ c.self.view_is c.self.invariant) in
     ap (λ ts. let table : Table = record c.args.self.now { tasks = ts } in table) (sym (changed_none (λ _. c.args.task) pid tasks (none_found pid tasks none)))
 
 pub index-old-requires : goal.index-old-requires
 index-old-requires c =
     let kept = kept_of _ _ _ _ _ _ _ c.self.view_is c.self.invariant in
-    ap is_some (task_in kept (slot_seen kept c.deref.ensures.value c.in-Some.ensures)).1
+    ap is_some (task_in kept (c.in-Some.ensures _ _ _ _ _ kept)).1
 
 slot : (c : goal.After-self-1) → IsSlotOf c.in-Some.key c.args.task.spec.pid c.self.inside.entries.items c.args.self.now.tasks
-slot c = slot_seen (kept_of _ _ _ _ _ _ _ c.self.view_is c.self.invariant) c.deref.ensures.value c.in-Some.ensures
+slot c = c.in-Some.ensures _ _ _ _ _ (kept_of _ _ _ _ _ _ _ c.self.view_is c.self.invariant)
 
 after : (c : goal.After-self-1) → IsKept (with_value c.self.inside.slots c.in-Some.key c.args.task) c.self.inside.entries.items
     c.self.inside.threads.all.items c.self.inside.processes.all.items (vec_capacity c.self.inside.entries) c.self.inside.limit

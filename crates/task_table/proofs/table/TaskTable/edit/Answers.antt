@@ -11,7 +11,7 @@ use Rattle.task_table.specs.Table.{Table}
 use Rattle.task_table.specs.Inside.{totals_of, groups_of, IsSlotOf, IsKept}
 use Rattle.task_table.proofs.Rising.{changed_none}
 use Rattle.task_table.proofs.Tables.{none_found}
-use Rattle.task_table.proofs.Kept.{kept_of, kept_again, seen_as, kept_seen, slot_seen, task_in, kept_edited, edited}
+use Rattle.task_table.proofs.Kept.{kept_of, kept_again, seen_as, task_in, kept_edited, edited}
 use Rattle.task_table.proofs.table.TaskTable.edit.Goals as goal
 
 -- an edit leaves a task's line
@@ -27,10 +27,10 @@ line_kept (Queued cpu vtime deadline stamp) task = refl
 pub index_mut-requires : goal.index_mut-requires
 index_mut-requires c =
     let kept = kept_of _ _ _ _ _ _ _ c.self.view_is c.self.invariant in
-    ap is_some (task_in kept (slot_seen kept c.deref.ensures.value c.in-Some.ensures)).1
+    ap is_some (task_in kept (c.in-Some.ensures _ _ _ _ _ kept)).1
 
 slot : (c : goal.After-self-1) → IsSlotOf c.in-Some.key c.args.pid c.self.inside.entries.items c.args.self.now.tasks
-slot c = slot_seen (kept_of _ _ _ _ _ _ _ c.self.view_is c.self.invariant) c.deref.ensures.value c.in-Some.ensures
+slot c = c.in-Some.ensures _ _ _ _ _ (kept_of _ _ _ _ _ _ _ c.self.view_is c.self.invariant)
 
 after : (c : goal.After-self-1) → IsKept (with_value c.self.inside.slots c.in-Some.key c.write.new.task) c.self.inside.entries.items
     c.self.inside.threads.all.items c.self.inside.processes.all.items (vec_capacity c.self.inside.entries) c.self.inside.limit
@@ -59,5 +59,5 @@ returns-in-Some-clause-sound c = (kept_again (after c)).sound
 
 pub returns-in_default-clause-edited : goal.returns-in_default-clause-edited
 returns-in_default-clause-edited c =
-    let none = c.in_default.ensures _ _ _ _ _ (kept_seen (kept_of _ _ _ _ _ _ _ c.self.view_is c.self.invariant) c.deref.ensures.value) in
+    let none = c.in_default.ensures _ _ _ _ _ (kept_of _ _ _ _ _ _ _ c.self.view_is c.self.invariant) in
     ap (λ ts. let table : Table = record c.args.self.now { tasks = ts } in table) (sym (changed_none (edit_task c.args.edit) c.args.pid c.args.self.now.tasks (none_found c.args.pid c.args.self.now.tasks none)))
