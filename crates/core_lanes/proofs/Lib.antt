@@ -3,6 +3,7 @@ pub mod Counted
 pub mod Queues
 pub mod AtHome
 pub mod Replaced
+pub mod Placed
 pub mod Starts
 pub mod Lists
 pub mod Alike

@@ -78,10 +78,6 @@ pub record MovesBy {Q : Type 0} {g : Ghosts Q} (Held : Type 0) (pid to : ℕ) (o
   pub kept : kept_of new ≡ kept_of old
   pub agree : AgreeBy Held new
 
--- whatever the queues hold
-abbrev pub Places : {Q : Type 0} {g : Ghosts Q} → ℕ → ℕ → Core Q g × Table → Core Q g × Table → Type 0
-Places pid to old new = MovesBy (Unit {0}) pid to old new
-
--- or into the queue there, where that of the sibling that it leaves is empty
+-- into the queue there, where that of the sibling that it leaves is empty
 abbrev pub Enters : {Q : Type 0} {g : Ghosts Q} → ℕ → ℕ → ℕ → Core Q g × Table → Core Q g × Table → Type 0
 Enters pid from to old new = MovesBy (AreHeldAway from new) pid to old new

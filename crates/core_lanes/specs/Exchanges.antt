@@ -1,9 +1,11 @@
 -- Exchanges: two siblings of a core change their queues, where all tasks of the one moved to the other, which had none.
-use Rattle.std.specs.Prelude.{◌≡◌, ◌≢◌, ℕ, ◌<◌, List, length, map, Some, slice_get}
+use Rattle.std.specs.Prelude.{◌≡◌, ◌≢◌, ℕ, ◌+◌, ◌*◌, ◌^◌, ◌<◌, List, length, map, Some, slice_get, slice_index_or}
+use Rattle.cs_types.specs.Room.{absent}
 use Rattle.task_table.specs.Table.{Table}
+use Rattle.task_table.specs.Moves.{with_first_moved}
 use Rattle.core_lanes.specs.Queued.{queued_at}
 use Rattle.core_lanes.specs.Moved.{MayRenew}
-use Rattle.core_lanes.specs.Lanes.{lane_state, queues_of, AgreeBy, MayMoveBy}
+use Rattle.core_lanes.specs.Lanes.{BareCore, bare, lane_state, queues_of, AgreeBy}
 use Rattle.core_lanes.specs.declared.queue.SiblingQueue.{Ghosts}
 use Rattle.core_lanes.specs.declared.lane.Lane.{Lane}
 use Rattle.core_lanes.specs.declared.lanes.Core.{Core}
@@ -12,9 +14,28 @@ use Rattle.core_lanes.specs.declared.lanes.Core.{Core}
 abbrev pub AgreeApart : {Q : Type 0} {g : Ghosts Q} → Core Q g × Table → Type 0
 AgreeApart both = AgreeBy (Unit {0}) both
 
--- a task may move, whatever the queues hold
-abbrev pub MayPlace : {Q : Type 0} {g : Ghosts Q} → ℕ → ℕ → ℕ → Core Q g × Table → Type 0
-MayPlace pid from to both = MayMoveBy (Unit {0}) pid from to both
+-- so many tasks may move from the one sibling to the other, one after another: the stamps and the touches do not overflow
+pub record MayPlace {Q : Type 0} {g : Ghosts Q} (count from to : ℕ) (core : Core Q g) : Type 0 where
+  pub cpu : from < length core.lanes.items
+  pub other : to < length core.lanes.items
+  pub stamps : core.next_stamp + count < 2 ^ 64
+  pub touches : core.task_number + 2 * count < 2 ^ 64
+
+-- the least virtual time of a sibling
+abbrev pub least_of : {Q : Type 0} {g : Ghosts Q} → Core Q g → ℕ → ℕ
+least_of core cpu = (slice_index_or (map lane_state core.lanes.items) cpu absent).least
+
+-- a core once so many tasks moved, each with the next stamp and two touches
+abbrev pub counted : ℕ → BareCore → BareCore
+counted count core = record core { next_stamp = core.next_stamp + count; task_number = core.task_number + 2 * count }
+
+-- so many of these tasks moved from the one sibling to the other, one after another, whatever the queues hold
+pub record PlacesFirst {Q : Type 0} {g : Ghosts Q} (count : ℕ) (pids : List ℕ) (from to : ℕ) (old new : Core Q g × Table) : Type 0 where
+  pub core : bare new.0 ≡ counted count (bare old.0)
+  pub lanes : new.0.lanes ≡ old.0.lanes
+  pub table : new.1 ≡ record old.1 {
+    tasks = with_first_moved count pids to (least_of old.0 from) (least_of old.0 to) old.0.next_stamp old.1.tasks;
+  }
 
 -- two siblings changed their queues, and nothing else did
 pub record Exchange {Q : Type 0} (one other : ℕ) (old new : List (Lane Q)) : Type 0 where

@@ -293,7 +293,7 @@ impl<Q: SiblingQueue> Core<Q> {
         ensures enters { Enters pid from to (self.old, table.old) (self.new, table.new) }
         ensures counted { ComparesFor 1 (self.old, table.old) steps.old steps.new }
     {
-        self.place(table, pid, from, to);
+        self.place(table, &[pid], from, to);
         let entered = table.find(pid).unwrap();
         self.lanes[to as usize].queue.put(table, to, entered, steps);
     }

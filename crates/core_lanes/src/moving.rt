@@ -29,9 +29,8 @@ fn swap_queues<Q: Drop>(lanes: &mut [Lane<Q>], one: usize, other: usize)
 }
 
 impl<Q: SiblingQueue> Core<Q> {
-    ghost use Rattle.core_lanes.specs.Exchanges.{MayPlace, MayExchange};
+    ghost use Rattle.core_lanes.specs.Exchanges.{MayPlace, PlacesFirst, MayExchange};
     ghost use Rattle.core_lanes.specs.Lanes.{MayTell, AreHeld, ChangesQueues};
-    ghost use Rattle.core_lanes.specs.Changes.{Places};
     ghost use Rattle.core_lanes.specs.Comparisons.{ComparesFor};
 
     /// Tells the tasks queued on the sibling by their pids, by rising stamp, in a list that has as many places.
@@ -42,19 +41,19 @@ impl<Q: SiblingQueue> Core<Q> {
         self.lanes[cpu as usize].queue.tell_into(table, cpu, movers);
     }
 
-    /// The task with the pid, which is queued on the one sibling, is at home on the other in the table, with the next stamp: it
-    /// keeps what it is ahead of the least virtual time of its queue. Its queue is to follow.
+    /// The tasks with these pids, one after another, are at home on the other sibling in the table, with the next stamps. Each
+    /// keeps what it is ahead of the least virtual time of the one sibling. The queues are to follow.
     #[inline(always)]
-    pub fn place(&mut self, table: &mut TaskTable, pid: Pid, from: Cpu, to: Cpu)
-        requires { MayPlace pid from to (self.old, table.old) }
-        ensures placed { Places pid to (self.old, table.old) (self.new, table.new) }
-        ensures lanes { self.new.lanes ≡ self.old.lanes }
+    pub fn place(&mut self, table: &mut TaskTable, pids: &[Pid], from: Cpu, to: Cpu)
+        requires { MayPlace (length pids.now) from to self.old }
+        ensures placed { PlacesFirst (length pids.now) pids.now from to (self.old, table.old) (self.new, table.new) }
     {
         let behind = self.lanes[from as usize].least;
         let least = self.lanes[to as usize].least;
-        table.move_to(pid, to, behind, least, self.next_stamp);
-        self.next_stamp += 1;
-        self.task_number += 2;
+        table.move_to(pids, to, behind, least, self.next_stamp);
+        let moved = pids.len() as u64;
+        self.next_stamp += moved;
+        self.task_number += 2 * moved;
     }
 
     /// The queues of the two siblings change places, and the one that moved has its tasks as they are now. The list may

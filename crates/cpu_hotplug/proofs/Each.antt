@@ -1,5 +1,5 @@
 -- Each: the tasks of a sibling that leaves move to another one by one, whatever the queues hold meanwhile.
-use Rattle.std.proofs.Common.{true, ◌≡◌, ◌+◌, ◌*◌, ◌<◌, ◌≤◌, ◌^◌, ℕ, List, refl, subst, sym, ap, ◌∙◌, arith, length, map, get_or}
+use Rattle.std.proofs.Common.{true, zero, suc, ◌≡◌, ◌+◌, ◌*◌, ◌<◌, ◌≤◌, ◌^◌, ℕ, List, refl, subst, sym, ap, ◌∙◌, arith, length, map, get_or}
 use Rattle.std.specs.Prelude.{find, ◌==◌, All, Some}
 use Rattle.std.proofs.lemmas.Bool.{and_parts, eqb-true}
 use Rattle.cs_types.specs.declared.task.Task.{Task}
@@ -10,8 +10,11 @@ use Rattle.cs_types.proofs.Spots.{replaced_by}
 use Rattle.task_table.specs.Table.{Table}
 use Rattle.core_lanes.specs.declared.queue.SiblingQueue.{Ghosts}
 use Rattle.core_lanes.specs.declared.lanes.Core.{Core}
-use Rattle.core_lanes.specs.Queued.{queued_among, mover_of, AreTold}
-use Rattle.core_lanes.specs.Lanes.{Beside, bare, room_by, room_of, AgreeBy, MayMoveBy}
+use Rattle.core_lanes.specs.Queued.{queued_among, mover_of, AreTold, AreStamped}
+use Rattle.task_table.specs.Moves.{with_first_moved}
+use Rattle.core_lanes.specs.Exchanges.{AgreeApart, PlacesFirst, least_of, counted}
+use Rattle.core_lanes.specs.Lanes.{BareCore, Beside, bare, room_by, room_of, Agree, AgreeBy, IsFit, MayMoveBy}
+use Rattle.core_lanes.proofs.Placed.{one_placed}
 use Rattle.core_lanes.specs.Numbers.{Numbers, numbers_by, numbers_of, touched}
 use Rattle.core_lanes.specs.Changes.{Kept, kept_of, identity_of, MovesBy}
 use Rattle.core_lanes.proofs.Stays.{some_beside, found_in, as_many_bare}
@@ -29,6 +32,34 @@ pub record MovedSoFar {Q : Type 0} {g : Ghosts Q} (Held : Type 0) (cpu count : �
 
 two_more : (n i : ℕ) → n + 2 * i + 2 ≡ n + 2 * (i + 1)
 two_more n i = omega arith
+
+plus_0 : (n : ℕ) → n + 0 ≡ n
+plus_0 n = omega arith
+
+plus_1 : (n : ℕ) → n + 1 ≡ suc n
+plus_1 n = omega arith
+
+one_stamp : (n i : ℕ) → n + suc i ≡ n + i + 1
+one_stamp n i = omega arith
+
+two_touches : (n i : ℕ) → n + 2 * suc i ≡ n + 2 * i + 2
+two_touches n i = omega arith
+
+-- a core and a table that agree do so whatever the queues hold
+pub apart_of : {Q : Type 0} {g : Ghosts Q} {both : Core Q g × Table} → Agree both → AgreeApart both
+apart_of agree = record { table = agree.table; few_tasks = agree.few_tasks; tasks = agree.tasks; stamped = agree.stamped; held = tt }
+
+-- and so does a core that is alike but for its queues, as soon as these hold what they are to hold
+pub agree_by : {Q : Type 0} {g : Ghosts Q} {Held : Type 0} (now then : Core Q g) (table : Table) → AgreeApart (now, table) → bare then ≡ bare now → Held → AgreeBy Held (then, table)
+agree_by now then table apart same held =
+    let many = as_many_bare now then same in
+    record {
+      table = apart.table;
+      few_tasks = apart.few_tasks;
+      tasks = subst (λ n. All (IsFit n) table.tasks) (sym many) apart.tasks;
+      stamped = subst (λ (core : BareCore). AreStamped core.next_stamp table.tasks) (sym same) apart.stamped;
+      held = held;
+    }
 
 module _ {Q : Type 0} {g : Ghosts Q} (cpu to : ℕ) (places : List ℕ) (core : Core Q g) (table : Table) (may : MayMoveAllTo cpu to places (core, table)) where
   -- none, where the core is as before but for its queues
@@ -50,7 +81,7 @@ module _ {Q : Type 0} {g : Ghosts Q} (cpu to : ℕ) (places : List ℕ) (core : 
   room = room_of some_beside (core, table)
 
   module _ (pids : List ℕ) (told : AreTold (map mover_of (queued_among table.tasks cpu)) pids) where
-    movers_are : length pids ≡ length (queued_among table.tasks cpu)
+    pub movers_are : length pids ≡ length (queued_among table.tasks cpu)
     movers_are = length-told room cpu may.may.agree.table.rising may.may.agree.stamped pids told
 
     module _ {Held : Type 0} (count : ℕ) (within : count < length pids) (now : Core Q g × Table) (moved : MovedSoFar Held cpu count (core, table) now) where
@@ -106,6 +137,28 @@ module _ {Q : Type 0} {g : Ghosts Q} (cpu to : ℕ) (places : List ℕ) (core : 
             kept = moves.kept ∙ moved.kept;
             agree = moves.agree;
           }
+
+    -- So it is of those that are placed one after another, whatever the queues hold.
+    pub first_moved : (count : ℕ) → count ≤ length pids → (then : Core Q g) (now : Table) → PlacesFirst count pids cpu to (core, table) (then, now) →
+        MovedSoFar (Unit {0}) cpu count (core, table) (then, now)
+    first_moved zero within then now placed =
+        let same : bare then ≡ bare core = placed.core ∙ (λ i. let before : BareCore = record (bare core) {
+          next_stamp = plus_0 core.next_stamp i;
+          task_number = plus_0 core.task_number i;
+        } in before) in
+        let agree : AgreeBy (Unit {0}) (core, table) = apart_of may.may.agree in
+        subst (λ (now : Table). MovedSoFar (Unit {0}) cpu 0 (core, table) (then, now)) (sym placed.table) (none_yet then same (agree_by core then table agree same tt))
+    first_moved (suc count) within then now placed =
+        let before : Core Q g = record core { next_stamp = core.next_stamp + count; task_number = core.task_number + 2 * count } in
+        let tasks : Table = record table { tasks = with_first_moved count pids to (least_of core cpu) (least_of core to) core.next_stamp table.tasks } in
+        let moved = first_moved count (omega (arith, within)) before tasks (record { core = refl; lanes = refl; table = refl }) in
+        let below : count < length pids = omega (arith, within) in
+        let same : bare then ≡ counted 1 (bare before) = placed.core ∙ (λ i. let after : BareCore = record (bare core) {
+          next_stamp = one_stamp core.next_stamp count i;
+          task_number = two_touches core.task_number count i;
+        } in after) in
+        let places = one_placed before tasks (get_or pids count 0) cpu to (may_move count below (before, tasks) moved) (least_of core cpu) (least_of core to) refl refl then same now placed.table in
+        subst (λ n. MovedSoFar (Unit {0}) cpu n (core, table) (then, now)) (plus_1 count) (one_moved count below (before, tasks) moved (then, now) places)
 
     -- where no more are told, all moved
     module _ {Held : Type 0} (count : ℕ) (beyond : length pids ≤ count) (most : count ≤ length pids) (now : Core Q g × Table) (moved : MovedSoFar Held cpu count (core, table) now) where

@@ -125,9 +125,7 @@ fn move_queue<Q: SiblingQueue, L: Ledger>(
     ensures counted { ComparesFor 3 (core.old, table.old) steps.old steps.new }
 {
     core.tell_queued(table, cpu, movers);
-    for mover in movers.iter() {
-        core.place(table, *mover, cpu, to);
-    }
+    core.place(table, movers, cpu, to);
     core.exchange(table, cpu, to, movers, steps);
 }
 

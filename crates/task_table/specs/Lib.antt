@@ -4,4 +4,5 @@ pub mod Positions
 pub mod Grouping
 pub mod Inside
 pub mod Walk
+pub mod Moves
 pub mod Edit

@@ -50,7 +50,7 @@ impl Edit {
                 stamp,
             } => {
                 task.home = home;
-                task.vtime = to.saturating_add(task.vtime.saturating_sub(from));
+                task.vtime = to.wrapping_add(task.vtime.saturating_sub(from));
                 task.stamp = stamp;
             }
             Edit::Vtime(vtime) => task.vtime = vtime,

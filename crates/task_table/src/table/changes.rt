@@ -1,7 +1,7 @@
 //! What changes the table: a task comes, is charged, is edited and goes. It is a part of the table's module, since nobody
 //! else reads the fields of the table.
 
-ghost use Rattle.std.specs.Prelude.{◌≡◌, ℕ, ◌+◌, ◌-◌, ◌<◌, ◌^◌, ◌==◌, true, false, map, min, filter, find, not, slice_set, List, if◌then◌else◌, IfNone, OnOk, OnErr, MatchOption, IsSome};
+ghost use Rattle.std.specs.Prelude.{◌≡◌, ℕ, ◌+◌, ◌-◌, ◌<◌, ◌^◌, ◌==◌, true, false, length, map, filter, find, not, slice_set, List, if◌then◌else◌, IfNone, OnOk, OnErr, MatchOption, IsSome};
 ghost use Rattle.std.specs.Option.{option_map};
 ghost use Rattle.cs_types.specs.Room.{asleep, inserted, has_pid};
 ghost use Rattle.cs_types.specs.declared.task.Task.{Task as SomeTask};
@@ -9,6 +9,7 @@ ghost use Rattle.task_table.specs.Table.{total_in, Rises, IsSound, add_answer};
 ghost use Rattle.task_table.specs.Inside.{IsSlotOf, IsKept};
 ghost use Rattle.task_table.specs.declared.spans.Span.{Span as SomeSpan};
 ghost use Rattle.task_table.specs.Edit.{edited};
+ghost use Rattle.task_table.specs.Moves.{with_first_moved};
 ghost use Rattle.task_table.specs.Positions.{IsIndexOf, IsGap};
 ghost use Rattle.task_table.specs.Grouping.{HasMember, Counts, AreSpans};
 
@@ -215,25 +216,27 @@ impl TaskTable {
         self.edit(pid, Edit::Cookie(cookie));
     }
 
-    /// The task with the pid, if there is one, is at home on this sibling, with this stamp. Its virtual time, in ns, is as far
-    /// ahead of `to` as it was of `from`, or `to` itself where it was behind `from`, and at most 2^128 - 1. Nothing else
-    /// changes.
+    /// The tasks with these pids, one after another, are at home on this sibling. The stamp is `first` for the first pid, and one
+    /// more for each later one. The virtual time, in ns, is as far ahead of `to` as it was of `from`, or `to` itself where it was
+    /// behind `from`, modulo 2^128. Nothing else changes.
     #[inline(always)]
-    pub fn move_to(&mut self, pid: Pid, home: Cpu, from: u128, to: u128, stamp: u64)
-        ensures moved { self.new ≡ record self.old {
-          tasks = map (λ (task : SomeTask). if has_pid pid task then record task { home = home; vtime = min (to + (task.vtime - from)) (2 ^ 128 - 1); stamp = stamp } else task) self.old.tasks;
-        } }
-        ensures sound { IsSound self.new }
+    pub fn move_to(&mut self, pids: &[Pid], home: Cpu, from: u128, to: u128, first: u64)
+        requires { first + length pids.now < 2 ^ 64 }
+        ensures moved { self.new ≡ record self.old { tasks = with_first_moved (length pids.now) pids.now home from to first self.old.tasks } }
     {
-        self.edit(
-            pid,
-            Edit::Home {
-                home,
-                from,
-                to,
-                stamp,
-            },
-        );
+        let mut stamp = first;
+        for pid in pids.iter() {
+            self.edit(
+                *pid,
+                Edit::Home {
+                    home,
+                    from,
+                    to,
+                    stamp,
+                },
+            );
+            stamp += 1;
+        }
     }
 
     /// The task with the pid, if there is one, has this virtual time, in ns. Nothing else changes.

@@ -15,16 +15,17 @@ use Rattle.core_lanes.specs.declared.queue.SiblingQueue.{Ghosts}
 use Rattle.core_lanes.specs.declared.lanes.Core.{Core}
 use Rattle.core_lanes.specs.Numbers.{numbers_by}
 use Rattle.core_lanes.specs.Lanes.{room_by, room_of, queues_of, AreHeldAs, AgreeAway, IsFit, MayEnter}
-use Rattle.core_lanes.specs.Changes.{Kept, kept_of}
+use Rattle.core_lanes.specs.Changes.{Kept, kept_of, MovesBy}
 use Rattle.core_lanes.proofs.Queues.{others-replaced, others-absent, absent_from, off_elsewhere}
 use Rattle.core_lanes.proofs.AtHome.{held_home, bare_home}
 use Rattle.core_lanes.proofs.Replaced.{is_of, own_stamp}
+use Rattle.core_lanes.proofs.Placed.{lone_placed}
 use Rattle.core_lanes.proofs.Lists.{is_there, is_it}
-use Rattle.core_lanes.proofs.Stays.{some_beside, queue_of, queue_at, stamp_next}
+use Rattle.core_lanes.proofs.Stays.{some_beside, found_in, queue_of, queue_at, stamp_next}
 use Rattle.core_lanes.proofs.lanes.Core.enter.Given.{Over}
 use Rattle.core_lanes.proofs.lanes.Core.enter.Goals as goal
 use Rattle.core_lanes.proofs.Counted.{of_one, as_many_live}
-use Rattle.core_lanes.proofs.lanes.Core.enter.Goals.{After-unwrap-entered}
+use Rattle.core_lanes.proofs.lanes.Core.enter.Goals.{After-place, After-unwrap-entered}
 
 -- what the queues hold while the tasks of a sibling leave it, but for the task with this pid
 abbrev AreHeldAwayBut : {Q : Type 0} {g : Ghosts Q} → ℕ → ℕ → Core Q g × Table → Type 0
@@ -132,7 +133,19 @@ module _ {Q : Type 0} {g : Ghosts Q} (core : Core Q g) (before : Table) (pid fro
 pub place-requires : goal.place-requires
 place-requires g c =
     let may = c.requires in
+    let fits = found_in (IsFit (length c.args.self.now.lanes.items)) c.args.pid c.args.table.now.tasks may.task may.agree.tasks may.there in
     record {
+      cpu = omega (arith, fits.home, may.home);
+      other = may.other;
+      stamps = may.stamp;
+      touches = may.touches;
+    }
+
+-- it was placed on the other sibling
+placed : (g : Over) (c : After-place g) → MovesBy (Unit {0}) c.args.pid c.args.to (c.args.self.now, c.args.table.now) (c.place.new.self, c.place.new.table)
+placed g c =
+    let may = c.requires in
+    lone_placed c.args.self.now c.args.table.now c.args.pid c.args.from c.args.to (record {
       task = may.task;
       there = may.there;
       queued = may.queued;
@@ -144,40 +157,45 @@ place-requires g c =
       leasts = may.leasts;
       stamp = may.stamp;
       touches = may.touches;
-    }
+    }) c.place.new.self c.place.new.table c.place.ensures.placed
 
 pub unwrap-entered-requires : goal.unwrap-entered-requires
 unwrap-entered-requires g c =
-    let is = c.place.ensures.placed.room c.requires.task c.requires.there some_beside in
-    let placed = is_placed c.args.self.now c.args.table.now c.args.pid c.args.from c.args.to c.requires c.place.new.self c.place.new.table is c.place.ensures.placed.kept c.place.ensures.lanes in
-    is_there c.find.result _ (c.find.ensures.task ∙ placed.found)
+    let moved = placed g (goal.at.unwrap-entered-requires g c).After-place in
+    let is = moved.room c.requires.task c.requires.there some_beside in
+    let there = is_placed c.args.self.now c.args.table.now c.args.pid c.args.from c.args.to c.requires c.place.new.self c.place.new.table is moved.kept c.place.ensures.placed.lanes in
+    is_there c.find.result _ (c.find.ensures.task ∙ there.found)
 
 -- ---- it enters the queue
 
 -- the one that was found, once it was placed
-one : (g : Over) (c : After-unwrap-entered g) → IsPlaced c.args.pid c.args.from c.args.to c.place.new.self c.place.new.table c.unwrap-entered.result.now
-one g c =
+one : (g : Over) (c : After-unwrap-entered g) → MovesBy (Unit {0}) c.args.pid c.args.to (c.args.self.now, c.args.table.now) (c.place.new.self, c.place.new.table) →
+    IsPlaced c.args.pid c.args.from c.args.to c.place.new.self c.place.new.table c.unwrap-entered.result.now
+one g c moved =
     found_placed c.args.self.now c.args.table.now c.args.pid c.args.from c.args.to c.requires c.place.new.self c.place.new.table
-    (c.place.ensures.placed.room c.requires.task c.requires.there some_beside) c.place.ensures.placed.kept c.place.ensures.lanes c.find.result c.unwrap-entered.result c.find.ensures.task c.unwrap-entered.ensures
+    (moved.room c.requires.task c.requires.there some_beside) moved.kept c.place.ensures.placed.lanes c.find.result c.unwrap-entered.result c.find.ensures.task c.unwrap-entered.ensures
 
 pub put-requires : goal.put-requires
 put-requires g c =
-    let placed = one g (goal.at.put-requires g c).After-unwrap-entered in
+    let at = goal.at.put-requires g c in
+    let moved = placed g at.After-place in
+    let entered = one g at.After-unwrap-entered moved in
     let lane = c.index_mut.result.now in
     record {
-      table = c.place.ensures.placed.agree.table;
-      there = placed.there;
-      queued = placed.queued;
-      home = placed.home;
-      stamp = placed.own;
-      holds = placed.here_but lane.queue (queue_at c.place.new.self.lanes.items c.args.to lane placed.within c.index_mut.ensures.value);
+      table = moved.agree.table;
+      there = entered.there;
+      queued = entered.queued;
+      home = entered.home;
+      stamp = entered.own;
+      holds = entered.here_but lane.queue (queue_at c.place.new.self.lanes.items c.args.to lane entered.within c.index_mut.ensures.value);
     }
 
 pub returns-clause-enters : goal.returns-clause-enters
 returns-clause-enters g c =
-    let entered = one g (goal.at.returns-clause-enters g c).After-unwrap-entered in
-    let placed = c.place.ensures.placed in
-    let apart = placed.agree in
+    let at = goal.at.returns-clause-enters g c in
+    let moved = placed g at.After-place in
+    let entered = one g at.After-unwrap-entered moved in
+    let apart = moved.agree in
     let then = c.place.new.self in
     let table = c.place.new.table in
     let to = c.args.to in
@@ -189,9 +207,9 @@ returns-clause-enters g c =
     let same = bare_home then to lane c.put.new.self c.index_mut.ensures.value in
     let many = length-set lanes to (record lane { queue = c.put.new.self }) in
     record {
-      room = λ t found beside. (λ i. room_by beside (same i) table) ∙ placed.room t found beside;
-      numbers = (λ i. numbers_by (same i) table) ∙ placed.numbers;
-      kept = (λ i. let kept : Kept = record (kept_of (then, table)) { siblings = many i } in kept) ∙ placed.kept;
+      room = λ t found beside. (λ i. room_by beside (same i) table) ∙ moved.room t found beside;
+      numbers = (λ i. numbers_by (same i) table) ∙ moved.numbers;
+      kept = (λ i. let kept : Kept = record (kept_of (then, table)) { siblings = many i } in kept) ∙ moved.kept;
       agree = record {
         table = apart.table;
         few_tasks = apart.few_tasks;
@@ -208,6 +226,6 @@ returns-clause-enters g c =
 
 pub returns-clause-counted : goal.returns-clause-counted
 returns-clause-counted g c =
-    let many = as_many_live (c.args.self.now, c.args.table.now) (c.place.new.self, c.place.new.table) c.place.ensures.placed.kept in
+    let many = as_many_live (c.args.self.now, c.args.table.now) (c.place.new.self, c.place.new.table) (placed g (goal.at.returns-clause-counted g c).After-place).kept in
     let put : c.put.new.steps ≤ c.args.steps.now + 1 * g.Q.SiblingQueue.most_compared (length c.place.new.table.tasks) = omega (arith, c.put.ensures.counted, of_one g.Q.SiblingQueue.most_compared g.met.Q.SiblingQueue.rises c.place.new.table.tasks c.args.to) in
     subst (λ n. c.put.new.steps ≤ c.args.steps.now + 1 * g.Q.SiblingQueue.most_compared n) many put
