@@ -12,7 +12,7 @@ use Rattle.std.specs.FinMap.{entries, entries_sorted, is_sorted, get, len, empty
 use Rattle.std.specs.FinMap.Entries.{below_all}
 use Rattle.std.proofs.lemmas.Bool.{and_parts, cases_Bool, cases_order, cond-true, cond-false, ne_eqb, eqb-false, eqb-true}
 use Rattle.cs_types.specs.declared.queue.Queued.{Queued}
-use Rattle.cs_types.specs.Queue.{Spot, Spots, spot_cmp, seat_cmp, spot_of, seat_of, queued_in, first_with, next_with}
+use Rattle.cs_types.specs.Queue.{Key as Place, Spot, Spots, spot_cmp, seat_cmp, spot_of, seat_of, queued_in, first_with, next_with}
 use Rattle.cs_types.proofs.Queues.{seat_total, spot_total, spot_cmp-IsAntisymmetric}
 use Rattle.order_tree.specs.Order.{Entry, Members, key_cmp, first_from, next_of}
 use Rattle.order_tree.specs.Renamed.{renamed, map_renamed}
@@ -244,7 +244,7 @@ module _ (members : Members) where
   len-tasks_of = len-map_renamed spots members (all_any (entries members))
 
   -- the tasks with other ranks and stamps
-  module _ (at : ℕ → ℕ × ℕ) where
+  module _ (at : ℕ → Place → Place) where
     renamed-anew : (es : List Entry) → renamed spot_at (map (rekeyed at) es) ≡ map (respotted at) (renamed spot_at es)
     renamed-anew [] = refl
     renamed-anew (e ∷ es) = ap (λ (rest : List (Spot × ℕ)). respotted at (spot_at e.0, e.1) ∷ rest) (renamed-anew es)

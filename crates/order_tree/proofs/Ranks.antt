@@ -76,7 +76,7 @@ module _ (members : Members) (of_class : IsOfClass members) where
   entries-ranked = entries-map_renamed ranks members each
 
   -- the keys with other ranks and stamps
-  module _ (at : ℕ → ℕ × ℕ) where
+  module _ (at : ℕ → queue.Key → queue.Key) where
     each-anew : (es : List Entry) → Each es → Each (map (rekeyed at) es)
     each-anew [] all = tt
     each-anew (e ∷ es) all = (all.0, each-anew es all.1)

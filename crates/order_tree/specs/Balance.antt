@@ -27,10 +27,14 @@ joined left entry right = left.entries ++ entry ∷ right.entries
 abbrev pub over : Branch → Entry → Branch → Branch
 over left entry right = record { entries = joined left entry right; height = max left.height right.height + 1 }
 
+-- what a node stands for with its sides
+abbrev pub under : Node → Branch
+under node = over node.left (entry_in node) node.right
+
 -- what a tree with this root stands for
 abbrev pub branch_of : Option (Box Node Global) → Branch
 branch_of None = record { entries = []; height = 0 }
-branch_of (Some node) = over node.value.left (entry_in node.value) node.value.right
+branch_of (Some node) = under node.value
 
 -- the fewest entries that a balanced tree of this height has
 abbrev pub fewest : ℕ → ℕ

@@ -8,7 +8,7 @@ ghost use Rattle.cs_types.specs.Comparisons.{digits};
 ghost use Rattle.order_tree.specs.Order.{key_cmp, start_of, stamped};
 ghost use Rattle.order_tree.specs.Anew.{rekeyed};
 ghost use Rattle.order_tree.specs.Branch.{without, reaches};
-ghost use Rattle.order_tree.specs.Balance.{entry_in, entry_at, HasMany, IsRoot, HasFirst};
+ghost use Rattle.order_tree.specs.Balance.{entry_in, entry_at, under, HasMany, IsEven, IsRoot, HasFirst};
 
 mod balance;
 
@@ -102,6 +102,31 @@ impl Node {
         ensures { result ≡ self.now.pid }
     {
         self.pid
+    }
+
+    /// Its key, and those of the nodes below it, get the rank and the stamp that their pids have now, with which they
+    /// rise still. A walk so calls no tree that is empty.
+    fn renew<R: Renewal>(&mut self, renewal: &R)
+        requires even { IsEven self.old }
+        requires rising { IsTrue (is_sorted key_cmp (map (rekeyed (R.at renewal.now)) (under self.old).entries)) }
+        ensures even { IsEven self.new }
+        ensures entries { (under self.new).entries ≡ map (rekeyed (R.at renewal.now)) (under self.old).entries }
+        ensures height { (under self.new).height ≡ (under self.old).height }
+    {
+        let Node {
+            left,
+            key,
+            pid,
+            right,
+            ..
+        } = self;
+        if let Some(root) = &mut left.root {
+            root.renew(renewal);
+        }
+        renewal.renew(*pid, &mut key.rank, &mut key.stamp);
+        if let Some(root) = &mut right.root {
+            root.renew(renewal);
+        }
     }
 
     /// Writes an entry over the node's.
@@ -284,26 +309,15 @@ impl Tree {
 
     /// Each key gets the rank and the stamp that its pid has now, with which the keys rise still. It compares no
     /// key, and moves no node.
+    #[inline(always)]
     pub fn renew<R: Renewal>(&mut self, renewal: &R)
         requires rising { IsTrue (is_sorted key_cmp (map (rekeyed (R.at renewal.now)) self.old.entries)) }
         ensures entries { self.new.entries ≡ map (rekeyed (R.at renewal.now)) self.old.entries }
         ensures height { self.new.height ≡ self.old.height }
     {
-        let Some(root) = &mut self.root else {
-            return;
-        };
-        let Node {
-            left,
-            key,
-            pid,
-            right,
-            ..
-        } = &mut **root;
-        if !left.is_empty() {
-            left.renew(renewal);
+        if let Some(root) = &mut self.root {
+            root.renew(renewal);
         }
-        (key.rank, key.stamp) = renewal.of(*pid);
-        right.renew(renewal);
     }
 
     /// Takes out the entry at the key, and puts the node that is spare then where none is. It stays `None` exactly

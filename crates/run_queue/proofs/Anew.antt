@@ -29,10 +29,10 @@ is_sorted-class : (class : ℕ) (es : List (Key × ℕ)) → is_sorted seat_cmp 
 is_sorted-class class [] = refl
 is_sorted-class class (e ∷ es) = λ i. below_all-class class e.0 es i && is_sorted-class class es i
 
-module _ (at : ℕ → ℕ × ℕ) where
+module _ (at : ℕ → Key → Key) where
   seated-anew : (class : ℕ) (es : List (Key × ℕ)) → map (reseated at) (seated class es) ≡ seated class (map (reranked at) es)
   seated-anew class [] = refl
-  seated-anew class (e ∷ es) = ap (λ (rest : List (Seat × ℕ)). ((class, at e.1), e.1) ∷ rest) (seated-anew class es)
+  seated-anew class (e ∷ es) = ap (λ (rest : List (Seat × ℕ)). ((class, at e.1 e.0), e.1) ∷ rest) (seated-anew class es)
 
   -- one class in front of others
   anew-next : (class : ℕ) (members : Members) (later : List (Seat × ℕ)) →

@@ -16,9 +16,11 @@ use Rattle.std.proofs.lemmas.List.{nil_from_length}
 use Rattle.std.proofs.lemmas.List.Sums.{length-filter, sum_by-cons}
 use Rattle.std.proofs.lemmas.List.Elements.{recursion_from_All}
 use Rattle.cs_types.specs.declared.task.Task.{Task}
+use Rattle.cs_types.specs.declared.task.Policy.{Policy}
+use Rattle.cs_types.specs.declared.task.Policy.TheVariants.{Stop, Deadline, Fifo, Rr, Fair}
 use Rattle.cs_types.specs.declared.queue.Queued.{Queued}
-use Rattle.cs_types.specs.Order.{fair_class, real_time_class}
-use Rattle.cs_types.specs.Queue.{Seat, Spot, seat_cmp, spot_cmp, seat_of, spot_of, queued_of}
+use Rattle.cs_types.specs.Order.{class_of, fair_class, real_time_class, is_fair}
+use Rattle.cs_types.specs.Queue.{Key, Seat, Spot, seat_cmp, spot_cmp, seat_of, spot_of, rank_by, queued_of}
 use Rattle.cs_types.proofs.Queues.{seat_total, seat_cmp-IsAntisymmetric, spot_total, spot_cmp-IsAntisymmetric}
 use Rattle.task_table.specs.Table.{Rises}
 use Rattle.core_lanes.specs.Queued.{queued_among, queued_at, IsOf}
@@ -206,16 +208,16 @@ module _ (from to next : ℕ) (was : List Queued) where
       in_order tasks each.1 distinct.1,
     )
 
-  module _ (at : ℕ → ℕ × ℕ) where
+  module _ (at : ℕ → Key → Key) where
     -- what is told of a task by its pid is what it has now
     abbrev IsTold : Queued → Type 0
-    IsTold task = at task.pid ≡ ((new task).rank, (new task).stamp)
+    IsTold task = at task.pid (task.rank, task.stamp) ≡ ((new task).rank, (new task).stamp)
 
     abbrev seat_at : Seat × ℕ → Seat
-    seat_at e = (e.0.0, at e.1)
+    seat_at e = (e.0.0, at e.1 e.0.1)
 
     abbrev spot_at : Spot × ℕ → Spot
-    spot_at e = (e.0.0, (e.0.1.0, at e.1))
+    spot_at e = (e.0.0, (e.0.1.0, at e.1 e.0.1.1))
 
     pub seated_again : (tasks : List Queued) → AllByRecursion IsHere tasks → AreDistinct tasks → AllByRecursion IsTold tasks →
         entries (seated (map new tasks)) ≡ map (reseated at) (entries (seated tasks))
@@ -284,8 +286,24 @@ tied_held (task ∷ tasks) distinct =
 
 -- ---- what a table tells of its tasks
 
-pub told_at : (tasks : List Task) (cpu : ℕ) → Rises tasks → AllByRecursion (λ (q : Queued). key_in tasks q.pid ≡ (q.rank, q.stamp)) (queued_at tasks cpu)
+-- a place becomes that of a task, where it has the stamp that another task would have too, and the rank of one that is not fair
+abbrev pub Becomes : (ℕ → Key → Key) → Queued → Type 0
+Becomes at task = (rank stamp : ℕ) → ((task.class == fair_class) ≡ false → rank ≡ task.rank) → at task.pid (rank, stamp) ≡ (task.rank, task.stamp)
+
+-- the virtual time of a fair task is its rank
+new_rank : (policy : Policy) (deadline vtime rank : ℕ) → ((class_of policy == fair_class) ≡ false → rank ≡ rank_by policy deadline vtime) →
+    cond (class_of policy == fair_class) vtime rank ≡ rank_by policy deadline vtime
+new_rank Stop deadline vtime rank same = same refl
+new_rank (Deadline relative) deadline vtime rank same = same refl
+new_rank (Fifo priority) deadline vtime rank same = same refl
+new_rank (Rr priority) deadline vtime rank same = same refl
+new_rank (Fair nice) deadline vtime rank same = refl
+
+pub told_at : (tasks : List Task) (cpu : ℕ) → Rises tasks → AllByRecursion (Becomes (key_in tasks)) (queued_at tasks cpu)
 told_at tasks cpu rising =
-    all_map (λ (q : Queued). key_in tasks q.pid ≡ (q.rank, q.stamp)) queued_of (queued_among tasks cpu)
-    (All-weaker (IsOf tasks) _ (λ task there. ap (λ found. option_map_or (λ (t : Task). ((queued_of t).rank, t.stamp)) found (0, 0)) there) (queued_among tasks cpu)
+    all_map (Becomes (key_in tasks)) queued_of (queued_among tasks cpu)
+    (All-weaker (IsOf tasks) _
+    (λ task there rank stamp same.
+    ap (λ found. option_map_or (λ (t : Task). (cond (is_fair t) t.vtime rank, t.stamp)) found (rank, stamp)) there ∙ ap (λ (n : ℕ). (n, task.stamp)) (new_rank task.spec.policy task.deadline task.vtime rank same))
+    (queued_among tasks cpu)
     (all_kept_by (is_on cpu) (IsOf tasks) tasks (recursion_from_All (IsOf tasks) tasks (each_is_of tasks rising))))

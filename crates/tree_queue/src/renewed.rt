@@ -2,8 +2,7 @@
 
 ghost use Rattle.tree_queue.specs.Renewed.{key_in};
 
-use core_lanes::rank_of;
-use cs_types::Pid;
+use cs_types::{Pid, Policy};
 use order_tree::Renewal;
 use task_table::TaskTable;
 
@@ -16,10 +15,13 @@ pub struct Renewed<'a> {
 impl<'a> Renewal for Renewed<'a> {
     ghost at = { λ renewed pid. key_in renewed.table.now.tasks pid };
 
-    fn of(&self, pid: Pid) -> (u128, u64) {
-        let Some(task) = self.table.find(pid) else {
-            return (0, 0);
-        };
-        (rank_of(task), task.stamp)
+    #[inline(always)]
+    fn renew(&self, pid: Pid, rank: &mut u128, stamp: &mut u64) {
+        if let Some(task) = self.table.find(pid) {
+            if let Policy::Fair(_) = task.spec.policy {
+                *rank = task.vtime;
+            }
+            *stamp = task.stamp;
+        }
     }
 }

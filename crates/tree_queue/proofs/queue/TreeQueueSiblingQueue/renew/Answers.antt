@@ -1,5 +1,7 @@
-use Rattle.std.proofs.Common.{◌≡◌, ℕ, ◌≤◌, List, Option, map, length, refl, sym, ap, ◌∙◌, subst, arith}
-use Rattle.std.specs.Prelude.{Contains}
+use Rattle.std.proofs.Common.{◌≡◌, ℕ, ◌+◌, ◌-◌, ◌≤◌, List, Option, map, length, refl, sym, ap, ◌∙◌, subst, arith}
+use Rattle.std.specs.Prelude.{◌==◌, Contains}
+use Rattle.std.proofs.lemmas.Bool.{cond-false}
+use Rattle.std.proofs.ByRecursion.{All-weaker}
 use Rattle.std.specs.List.{AllByRecursion}
 use Rattle.std.specs.FinMap.{entries, entries_sorted, is_sorted, same_entries_map}
 use Rattle.std.proofs.lemmas.List.{length-map}
@@ -7,7 +9,7 @@ use Rattle.std.proofs.lemmas.List.Elements.{recursion_from_All, All-contains_its
 use Rattle.cs_types.specs.declared.queue.Queued.{Queued}
 use Rattle.cs_types.specs.Comparisons.{most_comparisons}
 use Rattle.cs_types.specs.Order.{fair_class}
-use Rattle.cs_types.specs.Queue.{RunQueued, Seats, Spots, seat_cmp, spot_cmp, queued_of}
+use Rattle.cs_types.specs.Queue.{Key, RunQueued, Seats, Spots, seat_cmp, spot_cmp, queued_of}
 use Rattle.task_table.specs.Table.{Table}
 use Rattle.cookie_queue.specs.Anew.{respotted}
 use Rattle.run_queue.specs.Anew.{reseated}
@@ -20,7 +22,7 @@ use Rattle.tree_queue.specs.Held.{AreDistinct, Keeps, Holds, seated}
 use Rattle.tree_queue.specs.Kinds.{kind_of, lot_of, AreCounted}
 use Rattle.tree_queue.specs.Renewed.{key_in}
 use Rattle.tree_queue.proofs.Firsts.{each_queued}
-use Rattle.tree_queue.proofs.Moved.{distinct_again, seated_again, spotted_again, counted_again, same_kind, tied_held, told_at}
+use Rattle.tree_queue.proofs.Moved.{distinct_again, seated_again, spotted_again, counted_again, same_kind, tied_held, Becomes, told_at}
 use Rattle.cs_types.proofs.Filtered.{each_of_map}
 use Rattle.tree_queue.proofs.Compared.{many_seats, many_queued}
 use Rattle.tree_queue.proofs.queue.TreeQueueSiblingQueue.renew.Goals as goal
@@ -32,7 +34,7 @@ module _ {run : RunQueued} {first : Option Queued} {kinds lots : List ℕ} {limi
   abbrev new : Queued → Queued
   new = again may.moved.from may.moved.to may.moved.next was
 
-  abbrev at : ℕ → ℕ × ℕ
+  abbrev at : ℕ → Key → Key
   at = key_in table.tasks
 
   trees : Holds run limit was
@@ -41,10 +43,11 @@ module _ {run : RunQueued} {first : Option Queued} {kinds lots : List ℕ} {limi
   here : AllByRecursion (λ (task : Queued). Contains was task × (task.class ≡ fair_class → may.moved.from ≤ task.rank)) was
   here = recursion_from_All _ was (λ k d below. (All-contains_itself was k d below, may.moved.ahead k d below))
 
-  told : AllByRecursion (λ (q : Queued). at q.pid ≡ ((new q).rank, (new q).stamp)) was
+  told : AllByRecursion (λ (q : Queued). at q.pid (q.rank, q.stamp) ≡ ((new q).rank, (new q).stamp)) was
   told =
-      let IsTold : Queued → Type 0 = λ q. at q.pid ≡ (q.rank, q.stamp) in
-      each_of_map IsTold new was (subst (AllByRecursion IsTold) may.moved.are (told_at table.tasks cpu may.table.rising))
+      All-weaker (λ (q : Queued). Becomes at (new q)) _
+      (λ q is. is q.rank q.stamp (λ other. sym (cond-false (q.class == fair_class) (may.moved.to + (q.rank - may.moved.from)) q.rank other))) was
+      (each_of_map (Becomes at) new was (subst (AllByRecursion (Becomes at)) may.moved.are (told_at table.tasks cpu may.table.rising)))
 
   distinct : AreDistinct (map new was)
   distinct = distinct_again may.moved.from may.moved.to may.moved.next was was here trees.distinct
