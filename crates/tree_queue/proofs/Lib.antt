@@ -11,3 +11,4 @@ pub mod Firsts
 pub mod Moved
 pub mod Parts
 pub mod Told
+mod Begins

@@ -1,11 +1,11 @@
 -- Told: as many tasks as a sibling has, with rising stamps, are its tasks.
-use Rattle.std.proofs.Common.{◌≡◌, ◌≢◌, ℕ, zero, suc, ◌+◌, ◌<◌, ◌≤◌, Bool, true, false, cond, ltb, eqb, List, [], ◌∷◌, ◌++◌, Some, map, length, get_or, refl, sym, ap, ◌∙◌, arith, le-ltb}
+use Rattle.std.proofs.Common.{◌≡◌, ◌≢◌, ℕ, zero, suc, ◌+◌, ◌<◌, ◌≤◌, Bool, true, false, cond, ltb, eqb, List, [], ◌∷◌, ◌++◌, Some, map, length, get_or, refl, sym, ap, ◌∙◌, subst, append_assoc, arith, le-ltb}
 use Rattle.std.specs.Prelude.{find, Contains}
 use Rattle.std.specs.List.{AllByRecursion, remove}
 use Rattle.std.specs.List.Sorted.{IsPermutation, IsSortedByKey}
 use Rattle.std.specs.Ordering.{nat_cmp, is_lt}
 use Rattle.std.specs.declared.cmp.Ordering.TheVariants.{Less, Equal, Greater}
-use Rattle.std.proofs.lemmas.List.{length-map, map-append, get_or-map}
+use Rattle.std.proofs.lemmas.List.{length-map, append-nil, map-append, get_or-map}
 use Rattle.std.proofs.lemmas.List.Elements.{All-contains_itself, recursion_from_All}
 use Rattle.std.proofs.lemmas.List.Sorted.{IsPermutation-refl, IsPermutation-trans, IsPermutation-remove, IsPermutation-cons, Contains-permutation, length_permutation}
 use Rattle.std.proofs.lemmas.Map.Made.{Contains-tail}
@@ -54,6 +54,21 @@ below_later tasks above next pids le was = record {
   below = All-weaker (λ (mover : ℕ × ℕ). mover.0 < above) (λ (mover : ℕ × ℕ). mover.0 < next) (λ mover smaller. omega (arith, smaller, le)) was.among.movers was.below;
 }
 
+-- tasks with stamps in a row come behind them
+pub below_run : (tasks : List (ℕ × ℕ)) (base : ℕ) (run pids : List ℕ) → AreBelow tasks base pids →
+    ((place : ℕ) → place < length run → Contains tasks (base + place, get_or run place 0)) → AreBelow tasks (base + length run) (pids ++ run)
+below_run tasks base [] pids was there =
+    let none : base ≡ base + length {A = ℕ} [] = omega arith in
+    subst (λ above. AreBelow tasks above (pids ++ [])) none (subst (AreBelow tasks base) (sym (append-nil pids)) was)
+below_run tasks base (pid ∷ run) pids was there =
+    let first : base + 0 ≡ base = omega arith in
+    let one = below_more tasks base (base + 1) (base, pid) pids was (subst (λ stamp. Contains tasks (stamp, pid)) first (there 0 (omega arith))) refl (omega arith) in
+    let more = below_run tasks (base + 1) run (pids ++ pid ∷ []) one
+    (λ place less. subst (λ stamp. Contains tasks (stamp, get_or run place 0)) (omega arith) (there (suc place) (omega (arith, less)))) in
+    let past : base + 1 + length run ≡ base + length (pid ∷ run) = omega arith in
+    subst (λ above. AreBelow tasks above (pids ++ pid ∷ run)) past
+    (subst (AreBelow tasks (base + 1 + length run)) (append_assoc pids (pid ∷ []) run) more)
+
 -- ---- a task of a sibling
 
 -- a task that is found and is queued there is told among those that are
@@ -85,6 +100,21 @@ all_told (mover ∷ movers) all rising there many =
     IsPermutation-trans all (mover ∷ rest) (mover ∷ movers) same
     (IsPermutation-cons mover rest movers
     (all_told movers rest rising.1 (others all rest mover same movers rising.0 there.1) (omega (arith, many, length_permutation all (mover ∷ rest) same))))
+
+-- no more are told than there are
+pub no_more_told : (movers all : List (ℕ × ℕ)) → AreRising movers → AllByRecursion (Contains all) movers → length movers ≤ length all
+no_more_told [] all rising there = omega arith
+no_more_told (mover ∷ movers) all rising there =
+    let k = there.0.0 in
+    let rest = remove all k in
+    let same : IsPermutation all (mover ∷ rest) = IsPermutation-remove all k mover there.0.1 (sym there.0.2) in
+    let few = no_more_told movers rest rising.1 (others all rest mover same movers rising.0 there.1) in
+    omega (arith, few, length_permutation all (mover ∷ rest) same)
+
+pub few_below : (all : List (ℕ × ℕ)) (above : ℕ) (pids : List ℕ) → AreBelow all above pids → length pids ≤ length all
+few_below all above pids told =
+    let movers = told.among.movers in
+    omega (arith, ap length told.among.are, length-map movers (λ (mover : ℕ × ℕ). mover.1), no_more_told movers all told.among.rising told.among.there)
 
 -- ---- by rising stamp
 

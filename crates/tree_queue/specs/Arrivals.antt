@@ -1,5 +1,5 @@
 -- Arrivals: tasks in the order in which they came to a queue.
-use Rattle.std.specs.Prelude.{◌≡◌, ℕ, ◌<◌, List, [], ◌∷◌, map, Contains}
+use Rattle.std.specs.Prelude.{◌≡◌, ℕ, ◌<◌, ◌≤◌, List, [], ◌∷◌, length, take, map, Contains}
 use Rattle.std.specs.List.{AllByRecursion}
 
 -- each has a smaller stamp than those behind it
@@ -18,3 +18,8 @@ pub record AreAmong (tasks : List (ℕ × ℕ)) (pids : List ℕ) : Type 0 where
 pub record AreBelow (tasks : List (ℕ × ℕ)) (above : ℕ) (pids : List ℕ) : Type 0 where
   pub among : AreAmong tasks pids
   pub below : AllByRecursion (λ mover. mover.0 < above) among.movers
+
+-- The list begins with so many pids of such tasks.
+pub record BeginsBelow (tasks : List (ℕ × ℕ)) (above told : ℕ) (pids : List ℕ) : Type 0 where
+  pub within : told ≤ length pids
+  pub below : AreBelow tasks above (take told pids)

@@ -1,18 +1,14 @@
 //! The tasks that came to a queue, in the order in which they came. It is apart, since it is a hint: what it tells is
 //! looked up in the table, and nothing that is promised rests on what it keeps.
 
-ghost use Rattle.std.specs.Prelude.{◌≡◌, ◌+◌, ◌^◌, ◌<◌, ◌≤◌, false, length, map, Contains, IsTrue};
+ghost use Rattle.std.specs.Prelude.{◌≡◌, ℕ, ◌+◌, ◌^◌, ◌<◌, ◌≤◌, ◌++◌, length, take, drop, map, Contains, IsTrue};
+ghost use Rattle.std.specs.List.{slice_index_or};
 ghost use Rattle.core_lanes.specs.Queued.{queued_among, mover_of, AreTold};
-ghost use Rattle.tree_queue.specs.Arrivals.{AreBelow};
+ghost use Rattle.tree_queue.specs.Arrivals.{BeginsBelow};
 
-use arrayvec::ArrayVec;
-use core_lanes::{MOST_TASKS, is_on};
 use cs_types::{Cpu, OutOfMemory, Pid};
 use std::alloc::Global;
 use task_table::TaskTable;
-
-/// The pids of some tasks.
-type Movers = ArrayVec<Pid, MOST_TASKS>;
 
 /// Tasks that came to a queue, each in its turn. Of those that left since nothing is taken out.
 #[derive(Drop)]
@@ -74,13 +70,12 @@ impl Arrivals {
 
     /// Tells the tasks that are queued on the sibling, `count` of them, by rising stamp, in a list that has as many
     /// places. `false` where these are not all among those that are kept, or where far more are kept than there are: to
-    /// look these up would take longer than to ask the trees. Then it tells none, and the list is as it was.
+    /// look these up would take longer than to ask the trees. Then the list may have got some of them.
     pub fn tell(&self, table: &TaskTable, cpu: Cpu, count: usize, movers: &mut [Pid]) -> bool
         requires each { length movers.old ≡ count }
         requires count { count ≡ length (queued_among table.now.tasks cpu) }
-        requires few { count ≤ 256 }
         ensures told { IsTrue result → AreTold (map mover_of (queued_among table.now.tasks cpu)) movers.new }
-        ensures stays { result ≡ false → movers.new ≡ movers.old }
+        ensures each { length movers.new ≡ length movers.old }
     {
         if self.moved.len() + self.entries.len() > 2 * count + 16 {
             return false;
@@ -89,15 +84,10 @@ impl Arrivals {
             return false;
         };
         let (back, new) = self.entries.split_at(self.behind());
-        let mut told = Movers::new();
-        tell_entries(back, 0, self.base, table, cpu, count, &mut told);
-        tell_moved(&self.moved, self.base, table, cpu, &mut told);
-        tell_entries(new, past, u64::MAX, table, cpu, count, &mut told);
-        if told.len() == count {
-            movers.copy_from_slice(&told);
-            return true;
-        }
-        false
+        let told = tell_entries(back, 0, self.base, table, cpu, movers, 0);
+        let told = tell_moved(&self.moved, self.base, table, cpu, movers, told);
+        let told = tell_entries(new, past, u64::MAX, table, cpu, movers, told);
+        told == count
     }
 }
 
@@ -122,50 +112,92 @@ fn first_stamp(table: &TaskTable, movers: &[Pid]) -> u64 {
     }
 }
 
-/// Tells those of the tasks that are queued on the sibling since they moved, behind those that are told already, whose
-/// stamps are below. The first got the stamp `base` then, and those of the others follow in a row. It tells no more than the
-/// list can take.
-fn tell_moved(moved: &[Pid], base: u64, table: &TaskTable, cpu: Cpu, movers: &mut Movers)
-    requires lower { AreBelow (map mover_of (queued_among table.now.tasks cpu)) base movers.old.items }
+/// Tells those of the tasks that are queued on the sibling since they moved, behind the `before` that are told already,
+/// whose stamps are below. The first got the stamp `base` then, and those of the others follow in a row. The result is how
+/// many are told then. The list has a place for each task of the sibling.
+fn tell_moved(
+    moved: &[Pid],
+    base: u64,
+    table: &TaskTable,
+    cpu: Cpu,
+    movers: &mut [Pid],
+    before: usize,
+) -> usize
+    requires each { length movers.old ≡ length (queued_among table.now.tasks cpu) }
+    requires lower { BeginsBelow (map mover_of (queued_among table.now.tasks cpu)) base before movers.old }
     requires low { base + length moved.now < 2 ^ 64 }
-    ensures below { AreBelow (map mover_of (queued_among table.now.tasks cpu)) (base + length moved.now) movers.new.items }
+    ensures each { length movers.new ≡ length movers.old }
+    ensures below { BeginsBelow (map mover_of (queued_among table.now.tasks cpu)) (base + length moved.now) result movers.new }
 {
-    for (place, pid) in moved.iter().enumerate() {
-        if movers.len() < MOST_TASKS && is_there(table, cpu, base + place as u64, *pid) {
-            movers.push(*pid);
-        }
+    let mut told = before;
+    let mut place = 0;
+    while place < moved.len() {
+        let rest = &moved[place..];
+        let there = count_there(rest, base + place as u64, table, cpu);
+        copy_behind(movers, told, &rest[..there]);
+        told += there;
+        // The task behind these is not there.
+        place = (place + there + 1).min(moved.len());
     }
+    told
 }
 
-/// Tells those of the entries that are tasks queued on the sibling since then, by rising stamp, behind those that are
-/// told already, whose stamps are below `past`. It tells none with a stamp from `until` on, and no more than `most` in all.
+/// Writes these behind so many of a list, which has places for them.
+#[inline(always)]
+fn copy_behind(movers: &mut [Pid], told: usize, run: &[Pid])
+    requires { told + length run.now ≤ length movers.old }
+    ensures { movers.new ≡ take told movers.old ++ run.now ++ drop (told + length run.now) movers.old }
+{
+    movers[told..told + run.len()].copy_from_slice(run);
+}
+
+/// How many of the first of these tasks are queued on the sibling since the first got the stamp `base`, and the others those
+/// that follow in a row. Most are, so that one call mostly counts all.
+#[inline(never)]
+fn count_there(moved: &[Pid], base: u64, table: &TaskTable, cpu: Cpu) -> usize
+    requires low { base + length moved.now < 2 ^ 64 }
+    ensures within { result ≤ length moved.now }
+    ensures there { (place : ℕ) → place < result →
+        Contains (map mover_of (queued_among table.now.tasks cpu)) (base + place, slice_index_or moved.now place 0) }
+{
+    for (place, pid) in moved.iter().enumerate() {
+        if !is_there(table, cpu, base + place as u64, *pid) {
+            return place;
+        }
+    }
+    moved.len()
+}
+
+/// Tells those of the entries that are tasks queued on the sibling since then, by rising stamp, behind the `before` that
+/// are told already, whose stamps are below `past`. It tells none with a stamp from `until` on. The result is how many are
+/// told then. The list has a place for each task of the sibling.
 fn tell_entries(
     entries: &[(u64, Pid)],
     past: u64,
     until: u64,
     table: &TaskTable,
     cpu: Cpu,
-    most: usize,
-    movers: &mut Movers,
-)
-    requires below { AreBelow (map mover_of (queued_among table.now.tasks cpu)) past movers.old.items }
+    movers: &mut [Pid],
+    before: usize,
+) -> usize
+    requires each { length movers.old ≡ length (queued_among table.now.tasks cpu) }
+    requires below { BeginsBelow (map mover_of (queued_among table.now.tasks cpu)) past before movers.old }
     requires order { past ≤ until }
-    requires few { most ≤ 256 }
-    ensures below { AreBelow (map mover_of (queued_among table.now.tasks cpu)) until movers.new.items }
+    ensures each { length movers.new ≡ length movers.old }
+    ensures below { BeginsBelow (map mover_of (queued_among table.now.tasks cpu)) until result movers.new }
 {
+    let mut told = before;
     let mut above = past;
     for entry in entries.iter() {
         let (stamp, pid) = *entry;
         let next = after(stamp);
-        if movers.len() < most
-            && above < next
-            && next <= until
-            && is_there(table, cpu, stamp, pid)
-        {
-            movers.push(pid);
+        if above < next && next <= until && is_there(table, cpu, stamp, pid) {
+            movers[told] = pid;
+            told += 1;
             above = next;
         }
     }
+    told
 }
 
 /// The stamp that comes after this one, 0 where none does.
@@ -184,8 +216,11 @@ fn after(stamp: u64) -> u64
 fn is_there(table: &TaskTable, cpu: Cpu, stamp: u64, pid: Pid) -> bool
     ensures { IsTrue result → Contains (map mover_of (queued_among table.now.tasks cpu)) (stamp, pid) }
 {
-    match table.find(pid) {
-        Some(task) => is_on(task, cpu) && task.stamp == stamp,
-        None => false,
+    let Some(task) = table.find(pid) else {
+        return false;
+    };
+    if task.home != cpu || task.stamp != stamp {
+        return false;
     }
+    task.queued
 }

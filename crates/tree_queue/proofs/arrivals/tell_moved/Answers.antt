@@ -1,35 +1,44 @@
-use Rattle.std.proofs.Common.{◌≡◌, ◌+◌, [], ◌∷◌, ◌++◌, map, length, get_or, sym, ap, ◌∙◌, subst, arith}
+use Rattle.std.proofs.Common.{◌≡◌, ◌+◌, ◌-◌, map, length, take, drop, refl, sym, ap, ◌∙◌, subst, length-drop, length-take-le, arith}
+use Rattle.std.proofs.lemmas.List.{length-map}
 use Rattle.core_lanes.specs.Queued.{queued_among, mover_of}
-use Rattle.tree_queue.specs.Arrivals.{AreBelow}
-use Rattle.tree_queue.proofs.Told.{below_more, below_later}
+use Rattle.tree_queue.specs.Arrivals.{BeginsBelow}
+use Rattle.tree_queue.proofs.Begins.{begins_later, room_run, length_run, now_is, begins_run}
 use Rattle.tree_queue.proofs.arrivals.tell_moved.Goals as goal
-use Rattle.tree_queue.proofs.arrivals.tell_moved.Goals.{then-len-lt-MOST_TASKS+then-is_there, else-len-lt-MOST_TASKS}
 
 pub loop-place-init : goal.loop-place-init
-loop-place-init c =
-    let all = map mover_of (queued_among c.args.table.now.tasks c.args.cpu) in
-    record { below = below_later all c.args.base (c.args.base + 0) c.args.movers.now.items (omega arith) c.requires.lower }
+loop-place-init c = record {
+  each = refl;
+  within = omega arith;
+  below = begins_later (map mover_of (queued_among c.args.table.now.tasks c.args.cpu)) c.args.base (c.args.base + 0) c.args.before c.args.movers.now (omega arith) c.requires.lower;
+}
+
+pub copy_behind-requires : goal.copy_behind-requires
+copy_behind-requires c =
+    let queued = queued_among c.args.table.now.tasks c.args.cpu in
+    let was = c.loop-place in
+    let rest = take (length c.args.moved.now - was.place) (drop was.place c.args.moved.now) in
+    let there = c.count_there-there.ensures in
+    let room = room_run (map mover_of queued) (c.args.base + was.place) was.told was.movers was.invariant.below
+    (omega (arith, was.invariant.each, c.requires.each, length-map queued mover_of)) rest c.count_there-there.result there.within there.there in
+    omega (arith, room, length-take-le c.count_there-there.result rest there.within)
 
 pub loop-place-preserved : goal.loop-place-preserved
 loop-place-preserved c =
-    let all = map mover_of (queued_among c.args.table.now.tasks c.args.cpu) in
-    let was = c.loop-place.movers.items in
-    let place = c.loop-place.place in
-    let stamp = c.args.base + place in
-    let next = c.args.base + (place + 1) in
-    let pid = get_or c.args.moved.now place 0 in
-    elim c.if-len-lt-MOST_TASKS.branch [
-      | then-len-lt-MOST_TASKS+then-is_there w ↦
-          let now : c.if-len-lt-MOST_TASKS.movers.items ≡ was ++ pid ∷ [] = ap (λ movers. movers.items) w.movers-is ∙ w.push.ensures.items in
-          let more = below_more all stamp next (stamp, pid) was c.loop-place.invariant.below (w.is_there.ensures w.if-is_there.true) (omega arith) (omega arith) in
-          record { below = subst (AreBelow all next) (sym now) more }
-      | else-len-lt-MOST_TASKS w ↦
-          let now : c.if-len-lt-MOST_TASKS.movers.items ≡ was = ap (λ movers. movers.items) w.movers-is in
-          record { below = subst (AreBelow all next) (sym now) (below_later all stamp next was (omega arith) c.loop-place.invariant.below) }
-    ]
+    let queued = queued_among c.args.table.now.tasks c.args.cpu in
+    let all = map mover_of queued in
+    let was = c.loop-place in
+    let rest = take (length c.args.moved.now - was.place) (drop was.place c.args.moved.now) in
+    let there = c.count_there-there.ensures in
+    let places : length was.movers ≡ length all = omega (arith, was.invariant.each, c.requires.each, length-map queued mover_of) in
+    let is = c.copy_behind.ensures ∙ now_is all (c.args.base + was.place) was.told was.movers was.invariant.below places rest c.count_there-there.result there.within there.there in
+    record {
+      each = ap length is ∙ length_run all (c.args.base + was.place) was.told was.movers was.invariant.below places rest c.count_there-there.result there.within there.there ∙ was.invariant.each;
+      within = omega (arith, c.min-place.ensures);
+      below = subst (BeginsBelow all (c.args.base + c.min-place.result) (was.told + c.count_there-there.result)) (sym is)
+          (begins_run all (c.args.base + was.place) was.told was.movers was.invariant.below places rest c.count_there-there.result there.within there.there
+          (c.args.base + c.min-place.result) (omega (arith, c.min-place.ensures, there.within, length-take-le (length c.args.moved.now - was.place) (drop was.place c.args.moved.now), length-drop was.place c.args.moved.now)));
+    }
 
-pub returns : goal.returns
-returns c =
-    let all = map mover_of (queued_among c.args.table.now.tasks c.args.cpu) in
-    let last : c.loop-place.place ≡ length c.args.moved.now = omega (arith, c.loop-place-test.false, c.loop-place.auto.place-end) in
-    record { below = subst (λ place. AreBelow all (c.args.base + place) c.loop-place.movers.items) last c.loop-place.invariant.below }
+pub returns-clause-below : goal.returns-clause-below
+returns-clause-below c =
+    begins_later (map mover_of (queued_among c.args.table.now.tasks c.args.cpu)) (c.args.base + c.loop-place.place) _ c.loop-place.told c.loop-place.movers (omega (arith, c.loop-place.invariant.within)) c.loop-place.invariant.below

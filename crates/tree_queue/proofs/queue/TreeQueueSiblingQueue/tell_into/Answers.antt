@@ -1,4 +1,4 @@
-use Rattle.std.proofs.Common.{◌≡◌, ℕ, List, [], ◌∷◌, map, length, refl, sym, ap, ◌∙◌, subst, arith}
+use Rattle.std.proofs.Common.{◌≡◌, ℕ, List, [], ◌∷◌, map, refl, sym, ap, ◌∙◌, subst, arith}
 use Rattle.std.specs.FinMap.{entries}
 use Rattle.std.specs.List.Sorted.{IsPermutation}
 use Rattle.std.proofs.lemmas.List.Sorted.{IsPermutation-map}
@@ -23,14 +23,13 @@ tell-requires c =
     record {
       each = omega (arith, c.requires.each, c.count-count.ensures, many_queued tasks c.requires.holds.trees);
       count = c.count-count.ensures ∙ many_queued tasks c.requires.holds.trees;
-      few = omega (arith, c.count-count.ensures, many_queued tasks c.requires.holds.trees, c.requires.few);
     }
 
 pub tell_by_trees-requires : goal.tell_by_trees-requires
 tell_by_trees-requires c =
     let tasks = queued_among c.args.table.now.tasks c.args.cpu in
     record {
-      each = omega (arith, ap length (c.tell.ensures.stays c.if-tell.false), many_queued tasks c.requires.holds.trees, c.requires.each);
+      each = omega (arith, c.tell.ensures.each, many_queued tasks c.requires.holds.trees, c.requires.each);
       few = omega (arith, many_queued tasks c.requires.holds.trees, c.requires.few);
     }
 
