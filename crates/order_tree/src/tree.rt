@@ -1,8 +1,8 @@
 //! The tree: its nodes, and the walks that look for a key. How it keeps in balance stands in `balance`.
 
-ghost use Rattle.std.specs.Prelude.{◌≡◌, ◌≢◌, ◌+◌, ◌*◌, ◌≤◌, true, [], ◌++◌, length, ◌↔◌, IsTrue, None, MatchOption, if◌then◌else◌, slice_get, vec_capacity, map};
+ghost use Rattle.std.specs.Prelude.{◌≡◌, ◌≢◌, ◌+◌, ◌*◌, ◌≤◌, true, [], ◌++◌, length, ◌↔◌, IsTrue, None, Some, MatchOption, if◌then◌else◌, slice_get, vec_capacity, map};
 ghost use Rattle.std.specs.List as list;
-ghost use Rattle.std.specs.Option.{option_map};
+ghost use Rattle.std.specs.Option.{option_map, option_or};
 ghost use Rattle.std.specs.FinMap.{find, put, is_sorted};
 ghost use Rattle.cs_types.specs.Comparisons.{digits};
 ghost use Rattle.order_tree.specs.Order.{key_cmp, start_of, stamped};
@@ -129,6 +129,27 @@ impl Node {
         }
     }
 
+    /// The node of the least key that is of this group or of a greater one, among its own, which is, and the lesser ones.
+    #[inline(always)]
+    fn first_in<L: Ledger>(&self, group: u64, steps: &mut Steps<L>) -> &Node
+        requires own { group ≤ self.now.key.group }
+        ensures found { Some (entry_in result.now) ≡ option_or (list.find (λ entry. reaches true (key_cmp entry.0 (start_of group))) self.now.left.entries) (Some (entry_in self.now)) }
+        ensures counted { steps.new ≤ steps.old + self.now.left.height }
+    {
+        let mut found = self;
+        let mut tree = &self.left;
+        while let Some(node) = &tree.root {
+            steps.tick();
+            if node.key.group < group {
+                tree = &node.right;
+            } else {
+                found = node;
+                tree = &node.left;
+            }
+        }
+        found
+    }
+
     /// Writes an entry over the node's.
     pub fn hold(&mut self, key: Key, pid: Pid)
         ensures { entry_in self.new ≡ (key, pid) }
@@ -190,26 +211,6 @@ impl Tree {
         ensures shallow { self.now.height ≤ 2 * digits (length self.now.entries) }
         ensures counted { steps.new ≤ steps.old + self.now.height }
     {
-        self.walk(key, at, steps)
-    }
-
-    /// The same for the least key of a group, or at it. A walk for it mostly reads the groups alone.
-    #[inline(never)]
-    pub fn first_in<L: Ledger>(&self, group: u64, steps: &mut Steps<L>) -> Option<&Node>
-        ensures found { entry_at result ≡ list.find (λ entry. reaches true (key_cmp entry.0 (start_of group))) self.now.entries }
-        ensures shallow { self.now.height ≤ 2 * digits (length self.now.entries) }
-        ensures counted { steps.new ≤ steps.old + self.now.height }
-    {
-        self.walk(&Key::start_of(group), true, steps)
-    }
-
-    /// The walk that both of these make.
-    #[inline(always)]
-    fn walk<L: Ledger>(&self, key: &Key, at: bool, steps: &mut Steps<L>) -> Option<&Node>
-        ensures found { entry_at result ≡ list.find (λ entry. reaches at (key_cmp entry.0 key.now)) self.now.entries }
-        ensures shallow { self.now.height ≤ 2 * digits (length self.now.entries) }
-        ensures counted { steps.new ≤ steps.old + self.now.height }
-    {
         let mut tree = self;
         let mut found = None;
         while let Some(node) = &tree.root {
@@ -222,6 +223,25 @@ impl Tree {
             }
         }
         found
+    }
+
+    /// The same for the least key of a group, or at it. It reads the groups alone. Down to the first node of the group or
+    /// of a greater one it has found none, and from there on it has one, so that neither walk keeps whether it has.
+    #[inline(never)]
+    pub fn first_in<L: Ledger>(&self, group: u64, steps: &mut Steps<L>) -> Option<&Node>
+        ensures found { entry_at result ≡ list.find (λ entry. reaches true (key_cmp entry.0 (start_of group))) self.now.entries }
+        ensures shallow { self.now.height ≤ 2 * digits (length self.now.entries) }
+        ensures counted { steps.new ≤ steps.old + self.now.height }
+    {
+        let mut tree = self;
+        while let Some(node) = &tree.root {
+            steps.tick();
+            if node.key.group >= group {
+                return Some(node.first_in(group, steps));
+            }
+            tree = &node.right;
+        }
+        None
     }
 
     /// Puts the node in its place, where no entry has its key. The result tells whether the tree is a level

@@ -3,7 +3,7 @@ use Rattle.std.specs.Option.{option_or}
 use Rattle.cs_types.specs.Comparisons.{digits}
 use Rattle.order_tree.specs.Balance.{entry_at}
 use Rattle.order_tree.proofs.Placed.{sought}
-use Rattle.order_tree.proofs.tree.Tree.walk.Given as goal
+use Rattle.order_tree.proofs.tree.Tree.seek.Given as goal
 
 abbrev pub invariant-loop-tree : goal.invariant-loop-tree
 invariant-loop-tree g l = record {

@@ -4,7 +4,7 @@ use Rattle.order_tree.specs.Order.{Entry}
 use Rattle.order_tree.specs.Balance.{entry_at, entry_in}
 use Rattle.order_tree.specs.declared.tree.Node.{Node}
 use Rattle.order_tree.proofs.Placed.{sought, IsRoot-from, reached, shallow_of, seek-left, seek-right, option_or-Some}
-use Rattle.order_tree.proofs.tree.Tree.walk.Goals as goal
+use Rattle.order_tree.proofs.tree.Tree.seek.Goals as goal
 
 pub loop-tree-preserved-then-reaches : goal.loop-tree-preserved-then-reaches
 loop-tree-preserved-then-reaches g c =
