@@ -1,15 +1,17 @@
 -- Candidates: the tasks that a thief looks through, of which no two tie.
 use Rattle.std.proofs.Common.{◌≡◌, ◌≤◌, ℕ, Bool, true, false, ltb, List, length, sym, ap, ◌∙◌, Some, arith}
-use Rattle.std.specs.Prelude.{◌&&◌, ◌||◌, ◌==◌, not, find, Contains}
+use Rattle.std.specs.Prelude.{◌&&◌, ◌||◌, ◌==◌, not, find, Contains, IfSome}
+use Rattle.std.proofs.lemmas.List.Elements.{All-weaker, All-contains_itself}
 use Rattle.std.proofs.lemmas.Bool.{and_parts, eqb-true}
 use Rattle.std.proofs.lemmas.Bool.Decides.{nat_tests}
 use Rattle.std.proofs.lemmas.List.Sums.{length-filter, count_by-le-length}
 use Rattle.cs_types.specs.declared.task.Task.{Task}
 use Rattle.cs_types.specs.Room.{has_pid}
-use Rattle.cs_types.specs.Order.{goes_before, is_higher_here}
+use Rattle.cs_types.specs.Order.{goes_before, first_of, is_higher_here}
 use Rattle.cs_types.proofs.Filtered.{Contains-filter_parts}
 use Rattle.task_table.specs.Table.{Rises}
-use Rattle.core_lanes.specs.Queued.{queued_among, with_cookie, AreStamped}
+use Rattle.core_lanes.specs.Queued.{queued_among, with_cookie, AreStamped, IsOf}
+use Rattle.core_lanes.proofs.Lists.{All-find}
 use Rattle.core_lanes.proofs.Queues.{is_of}
 
 -- the tasks queued on the source with the cookie
@@ -31,6 +33,13 @@ candidate_parts cookie source tasks task there =
     let one = Contains-filter_parts (λ (t : Task). t.cookie == cookie) (queued_among tasks source) task there in
     let two = Contains-filter_parts (λ (t : Task). t.queued && (t.home == source)) tasks task one.0 in
     (two.0, (and_parts task.queued (task.home == source) two.1).0, eqb-true task.cookie cookie one.1)
+
+-- the first of them is found by its pid
+pub first_there : (cookie source : ℕ) (tasks : List Task) → Rises tasks → IfSome (first_of (candidates cookie source tasks)) (IsOf tasks)
+first_there cookie source tasks rises =
+    let all = candidates cookie source tasks in
+    All-find (IsOf tasks) _ all
+    (All-weaker (Contains all) (IsOf tasks) (λ task there. is_of tasks task rises (candidate_parts cookie source tasks task there).0) all (All-contains_itself all))
 
 -- two that tie have one stamp
 tie : (above below : Bool) (s t : ℕ) → (above || (not below && ltb s t)) ≡ false → (below || (not above && ltb t s)) ≡ false → s ≡ t

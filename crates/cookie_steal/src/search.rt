@@ -7,10 +7,11 @@ ghost use Rattle.cs_types.specs.Selection.{queued_with};
 ghost use Rattle.cs_types.specs.Steal.{may_steal, stolen};
 ghost use Rattle.core_lanes.specs.Lanes.{Beside, lane_state, room_of};
 ghost use Rattle.core_lanes.specs.Comparisons.{ComparesFor};
+ghost use Rattle.core_lanes.specs.Queued.{queued_among, with_cookie, MayFind};
 ghost use Rattle.cookie_steal.specs.Tries.{IsSourceOf};
 
-use core_lanes::{Core, Lane, SiblingQueue};
-use cs_types::{Cpu, Steps, Task};
+use core_lanes::{Core, Lane, SiblingQueue, task_of};
+use cs_types::{Cookie, Cpu, Steps, Task};
 use std::sync::ledger::Ledger;
 use task_table::TaskTable;
 
@@ -22,6 +23,22 @@ fn may_steal<Q: Drop>(thief: &Lane<Q>, source: &Lane<Q>, task: &Task) -> bool
     source.waiting != Some(Some(task.spec.pid))
         && !source.runs(task.spec.pid)
         && thief.idle_occupation >= task.occupation
+}
+
+/// The first of a sibling's tasks with the cookie, which is not 0.
+fn first_with<Q: SiblingQueue, L: Ledger>(
+    lane: &Lane<Q>,
+    cookie: Cookie,
+    table: &TaskTable,
+    cpu: Cpu,
+    steps: &mut Steps<L>,
+) -> Option<Task>
+    requires { MayFind (Q.holds lane.now.queue) cpu table.now cookie }
+    ensures answer { result ≡ first_of (with_cookie cookie (queued_among table.now.tasks cpu)) }
+    ensures counted { steps.new ≤ steps.old + Q.most_compared (length (queued_among table.now.tasks cpu)) }
+{
+    let first = lane.queue.first_with(cookie, table, cpu, steps)?;
+    task_of(table, first.pid)
 }
 
 /// The first of the source's tasks with the core's cookie, which is not 0, that the thief may take
@@ -41,7 +58,7 @@ fn first_to_steal<Q: SiblingQueue, L: Ledger>(
 {
     let idle = &core.lanes[thief as usize];
     let from = &core.lanes[source as usize];
-    let mut next = from.queue.first_with(core.cookie, table, source, steps);
+    let mut next = first_with(from, core.cookie, table, source, steps);
     while let Some(task) = next {
         if may_steal(idle, from, &task) {
             return Some(task);

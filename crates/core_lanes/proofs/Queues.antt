@@ -1,6 +1,7 @@
 -- Queues: what the queues hold once a task has left one, and once it has entered one.
-use Rattle.std.proofs.Common.{◌≡◌, ◌≢◌, ◌⊎◌, inl, inr, ℕ, zero, suc, ◌+◌, ◌<◌, ◌≤◌, Bool, true, false, cond, not, List, [], ◌∷◌, length, map, set, get_or, refl, subst, sym, ap, ◌∙◌, Some, arith}
-use Rattle.std.specs.Prelude.{find, ◌&&◌, ◌==◌, slice_get, Contains}
+use Rattle.std.proofs.Common.{◌≡◌, ◌≢◌, ◌⊎◌, inl, inr, ℕ, zero, suc, ◌+◌, ◌<◌, ◌≤◌, Bool, true, false, cond, not, List, [], ◌∷◌, length, map, set, get_or, refl, subst, sym, ap, ◌∙◌, Option, None, Some, arith}
+use Rattle.std.specs.Prelude.{find, ◌&&◌, ◌==◌, slice_get, Contains, IfSome}
+use Rattle.std.specs.Option.{option_map}
 use Rattle.std.proofs.lemmas.Bool.{cond-true, cond-false, cases_Bool, eqb-true, ne_eqb, eq-eqb}
 use Rattle.cs_types.specs.declared.task.Task.{Task}
 use Rattle.cs_types.specs.declared.queue.Queued.{Queued}
@@ -30,6 +31,17 @@ is_of_at low (first ∷ tasks) task rises (suc k) below is =
 
 pub is_of : (tasks : List Task) (task : Task) → Rises tasks → Contains tasks task → IsOf tasks task
 is_of tasks task rises there = (is_of_at 0 tasks task rises there.0 there.1 there.2).0
+
+-- what has no place in a queue, or no pid, is none
+pub none_of : {X Y : Type 0} (f : X → Y) (first : Option X) → None ≡ option_map f first → None ≡ first
+none_of f None is = refl
+none_of f (Some x) is = absurd cc
+
+-- what a queue has of a task is found by its pid
+pub found_queued : (tasks : List Task) (queued : Queued) (first : Option Task) → IfSome first (IsOf tasks) → Some queued ≡ option_map queued_of first →
+    find (has_pid queued.pid) tasks ≡ first
+found_queued tasks queued None there is = absurd cc
+found_queued tasks queued (Some task) there is = let same : queued ≡ queued_of task = cc in ap (λ (q : Queued). find (has_pid q.pid) tasks) same ∙ there
 
 -- ---- the others
 

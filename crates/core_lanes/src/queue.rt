@@ -111,9 +111,9 @@ pub trait SiblingQueue: Drop {
         table: &TaskTable,
         cpu: Cpu,
         steps: &mut Steps<L>,
-    ) -> Option<Task>
+    ) -> Option<Queued>
         requires { MayFind (holds self.now) cpu table.now cookie }
-        ensures answer { result ≡ first_of (with_cookie cookie (queued_among table.now.tasks cpu)) }
+        ensures answer { result ≡ option_map queued_of (first_of (with_cookie cookie (queued_among table.now.tasks cpu))) }
         ensures counted { steps.new ≤ steps.old + most_compared (length (queued_among table.now.tasks cpu)) };
 
     /// The first task with the cookie of this one, which is not 0, that stands behind it (`sched_core_next`).

@@ -4,7 +4,9 @@
 ghost use Rattle.std.specs.Prelude.{◌≡◌, ◌+◌, ◌-◌, ◌*◌, ◌≤◌, ◌<◌, ◌==◌, length, None, if◌then◌else◌};
 ghost use Rattle.task_table.specs.Table.{Table};
 ghost use Rattle.core_lanes.specs.Lanes.{Beside, room_of, Agree, AgreesAt};
+ghost use Rattle.std.specs.Option.{option_map};
 ghost use Rattle.cs_types.specs.Order.{first_of};
+ghost use Rattle.cs_types.specs.Queue.{queued_of};
 ghost use Rattle.core_lanes.specs.Queued.{queued_among, with_cookie, MaySearch};
 ghost use Rattle.core_pick.specs.Choice.{firsts_of, MayCount};
 ghost use Rattle.core_pick.specs.Comparisons.{Compares};
@@ -12,8 +14,8 @@ ghost use Rattle.core_pick.specs.Questions.{MayAsk, AsksOnce, AsksOf, KeepsFirst
 
 use crate::choice::{Choice, Counts};
 use crate::lead::{First, first_kept};
-use core_lanes::{Core, Lane, SiblingQueue, queued_of};
-use cs_types::{Cookie, Cpu, Steps, Task};
+use core_lanes::{Core, Lane, SiblingQueue};
+use cs_types::{Cookie, Cpu, Queued, Steps};
 use std::sync::ledger::Ledger;
 use task_table::TaskTable;
 
@@ -27,9 +29,9 @@ fn search_on<Q: SiblingQueue, L: Ledger>(
     cookie: Cookie,
     cpu: Cpu,
     steps: &mut Steps<L>,
-) -> Option<Task>
+) -> Option<Queued>
     requires { MaySearch (Q.holds lane.now.queue) cpu table.now }
-    ensures { AsksOf Q.most_compared cpu table.now (result ≡ (if cookie == 0 then None else first_of (with_cookie cookie (queued_among table.now.tasks cpu)))) steps.old steps.new }
+    ensures { AsksOf Q.most_compared cpu table.now (result ≡ option_map queued_of (if cookie == 0 then None else first_of (with_cookie cookie (queued_among table.now.tasks cpu)))) steps.old steps.new }
 {
     if cookie == 0 {
         return None;
@@ -60,8 +62,8 @@ fn settle<Q: SiblingQueue, L: Ledger>(
         return counts.with_task(lane.online);
     }
     match search_on(lane, table, cookie, cpu, steps) {
-        Some(task) => {
-            *given = Choice::of(&queued_of(&task));
+        Some(queued) => {
+            *given = Choice::of(&queued);
             counts.with_task(lane.online)
         }
         None => {

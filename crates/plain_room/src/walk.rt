@@ -126,12 +126,13 @@ impl SiblingQueue for Walk {
         table: &TaskTable,
         cpu: Cpu,
         _steps: &mut Steps<L>,
-    ) -> Option<Task> {
-        table
+    ) -> Option<Queued> {
+        let first = table
             .iter()
             .copied()
             .filter(|task| is_on(task, cpu) && task.cookie == cookie)
-            .reduce(|first, task| earlier(first, task))
+            .reduce(|first, task| earlier(first, task))?;
+        Some(queued_of(&first))
     }
 
     fn next_with<L: Ledger>(

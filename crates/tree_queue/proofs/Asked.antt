@@ -64,25 +64,9 @@ pub low_among : (tasks : List Task) (cpu : ℕ) → HavePolicies tasks → All I
 low_among tasks cpu policies =
     All-filter (is_on cpu) IsLow tasks (All-weaker (λ (t : Task). IsPolicy t.spec.policy) IsLow (λ t policy. low_priority t.spec.policy policy) tasks policies)
 
--- the first of some of a table is found by its pid
-pub found_first : (tasks : List Task) (cpu : ℕ) (q : Task → Bool) → Rises tasks → IfSome (first_of (filter q (queued_among tasks cpu))) (IsOf tasks)
-found_first tasks cpu q rises =
-    All-find (IsOf tasks) _ (filter q (queued_among tasks cpu)) (All-filter q (IsOf tasks) (queued_among tasks cpu) (All-filter (is_on cpu) (IsOf tasks) tasks (each_is_of tasks rises)))
-
--- and of those behind a task
+-- the first of those behind a task is found by its pid
 pub found_behind : (tasks : List Task) (cpu : ℕ) (task : Task) → Rises tasks → IfSome (first_of (behind task (with_cookie task.cookie (queued_among tasks cpu)))) (IsOf tasks)
 found_behind tasks cpu task rises =
     All-find (IsOf tasks) _ (behind task (with_cookie task.cookie (queued_among tasks cpu)))
     (All-filter (goes_before task) (IsOf tasks) (with_cookie task.cookie (queued_among tasks cpu))
     (All-filter (λ t. t.cookie == task.cookie) (IsOf tasks) (queued_among tasks cpu) (All-filter (is_on cpu) (IsOf tasks) tasks (each_is_of tasks rises))))
-
--- what has no place in a queue, or no pid, is none
-pub none_of : {X Y : Type 0} (f : X → Y) (first : Option X) → None ≡ option_map f first → None ≡ first
-none_of f None is = refl
-none_of f (Some x) is = absurd cc
-
--- what a queue has of a task is found by its pid
-pub found_queued : (tasks : List Task) (queued : Queued) (first : Option Task) → IfSome first (IsOf tasks) → Some queued ≡ option_map queued_of first →
-    find (has_pid queued.pid) tasks ≡ first
-found_queued tasks queued None there is = absurd cc
-found_queued tasks queued (Some task) there is = let same : queued ≡ queued_of task = cc in ap (λ (q : Queued). find (has_pid q.pid) tasks) same ∙ there

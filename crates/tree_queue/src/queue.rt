@@ -149,14 +149,14 @@ impl SiblingQueue for TreeQueue {
     fn first_with<L: Ledger>(
         &self,
         cookie: Cookie,
-        table: &TaskTable,
+        _table: &TaskTable,
         _cpu: Cpu,
         steps: &mut Steps<L>,
-    ) -> Option<Task> {
+    ) -> Option<Queued> {
         if self.lots[lot_of(cookie)] == 0 {
             return None;
         }
-        task_of(table, self.run.first_of(cookie, steps)?.pid)
+        self.run.first_of(cookie, steps)
     }
 
     fn next_with<L: Ledger>(

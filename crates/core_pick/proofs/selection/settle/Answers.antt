@@ -1,12 +1,15 @@
-use Rattle.std.proofs.Common.{arith, ◌≡◌, ◌∙◌, ◌+◌, ℕ, Bool, true, false, cond, ap, sym, List, Option, Some, None}
+use Rattle.std.proofs.Common.{arith, ◌≡◌, ◌∙◌, ◌+◌, ℕ, Bool, true, false, cond, refl, ap, sym, List, Option, Some, None}
 use Rattle.std.specs.Prelude.{◌==◌, ◌||◌, is_none}
 use Rattle.std.proofs.lemmas.Bool.{eq-eqb, ne_eqb}
+use Rattle.std.specs.Option.{option_map}
 use Rattle.cs_types.specs.declared.task.Task.{Task}
 use Rattle.cs_types.specs.declared.queue.Queued.{Queued}
 use Rattle.cs_types.specs.Room.{RoomState, SiblingState, sibling_of}
 use Rattle.cs_types.specs.Order.{idle_class, first_of}
+use Rattle.cs_types.specs.Queue.{queued_of}
 use Rattle.cs_types.specs.Selection.{first_on, cookie_of, choice}
 use Rattle.core_lanes.specs.Queued.{queued_among, with_cookie}
+use Rattle.core_lanes.proofs.Queues.{none_of}
 use Rattle.core_pick.specs.declared.choice.Choice.{Choice}
 use Rattle.core_pick.specs.declared.choice.Counts.{Counts}
 use Rattle.core_pick.specs.Choice.{choice_of}
@@ -58,25 +61,33 @@ returns-then-given-cookie g c = record {
   counted = omega arith;
 }
 
--- what the search finds is the choice
+-- what the search finds is the choice, as its queue has it
 found : (g : Over) (c : After-search_on g) (room : RoomState) → room.tasks ≡ c.args.table.now.tasks → c.args.given.now ≡ choice_of (first_on room c.args.cpu) →
-    is_none (first_on room c.args.cpu) ≡ false → choice room c.args.cookie c.args.cpu ≡ c.search_on.result
+    is_none (first_on room c.args.cpu) ≡ false → option_map queued_of (choice room c.args.cookie c.args.cpu) ≡ c.search_on.result
 found g c room tasks is some =
-    choice_searched room c.args.cookie c.args.cpu
+    ap (option_map queued_of)
+    (choice_searched room c.args.cookie c.args.cpu
     (kept_by_cookie room c.args.cookie c.args.cpu c.args.given.now false is some (ne_eqb c.args.given.now.cookie c.args.cookie c.if-given-cookie.false))
-    ∙ ap (λ (tasks : List Task). cond (c.args.cookie == 0) None (first_of (with_cookie c.args.cookie (queued_among tasks c.args.cpu)))) tasks
+    ∙ ap (λ (tasks : List Task). cond (c.args.cookie == 0) None (first_of (with_cookie c.args.cookie (queued_among tasks c.args.cpu)))) tasks)
     ∙ sym c.search_on.ensures.answer
+
+-- what is given of a task, as its queue has it, is the choice of that
+given_of : (task : Option Task) (queued : Queued) → option_map queued_of task ≡ Some queued →
+    (record { cookie = queued.cookie; pid = queued.pid; class = queued.class } ≡ choice_of task) × (is_none task ≡ false)
+given_of None queued is = absurd cc
+given_of (Some task) queued is =
+    let same : queued_of task ≡ queued = cc in
+    (ap (λ (q : Queued). let one : Choice = record { cookie = q.cookie; pid = q.pid; class = q.class } in one) (sym same), refl)
 
 pub returns-in-Some : goal.returns-in-Some
 returns-in-Some g c = record {
   answer = λ room tasks at is.
       let online = ap (λ (sibling : SiblingState). sibling.online) (sym at) in
       let some = tested (first_on room c.args.cpu) c.args.given.now c.is_idle.result false is c.is_idle.ensures c.if-is_idle.false in
-      let task : choice room c.args.cookie c.args.cpu ≡ Some c.in-Some.task = found g (goal.at.returns-in-Some g c).After-search_on room tasks is some ∙ c.in-Some.is in
-      let queued : c.of.result ≡ choice_of (Some c.in-Some.task) = c.of.ensures ∙ ap (λ (queued : Queued). let one : Choice = record { cookie = queued.cookie; pid = queued.pid; class = queued.class } in one) c.queued_of.ensures in
+      let given = given_of (choice room c.args.cookie c.args.cpu) c.in-Some.queued (found g (goal.at.returns-in-Some g c).After-search_on room tasks is some ∙ c.in-Some.is) in
       record {
-        gets = queued ∙ ap choice_of (sym task);
-        counts = counted_task room c.args.cookie c.args.cpu c.args.counts c.with_task-in-Some.result (ap is_none task)
+        gets = c.of.ensures ∙ given.0;
+        counts = counted_task room c.args.cookie c.args.cpu c.args.counts c.with_task-in-Some.result given.1
             (c.with_task-in-Some.ensures ∙ occupied_by c.args.counts c.args.lane.now.online (sibling_of room c.args.cpu).online online);
       };
   counted = c.search_on.ensures.counted;
@@ -87,7 +98,7 @@ returns-in-None g c = record {
   answer = λ room tasks at is.
       let online = ap (λ (sibling : SiblingState). sibling.online) (sym at) in
       let some = tested (first_on room c.args.cpu) c.args.given.now c.is_idle.result false is c.is_idle.ensures c.if-is_idle.false in
-      let none : choice room c.args.cookie c.args.cpu ≡ None = found g (goal.at.returns-in-None g c).After-search_on room tasks is some ∙ c.in-None.is in
+      let none = sym (none_of queued_of (choice room c.args.cookie c.args.cpu) (sym (found g (goal.at.returns-in-None g c).After-search_on room tasks is some ∙ c.in-None.is))) in
       record {
         gets = c.idle.ensures ∙ ap choice_of (sym none);
         counts = counted_forced room c.args.cookie c.args.cpu c.args.counts c.with_forced.result some (ap is_none none)

@@ -5,7 +5,7 @@ use Rattle.cs_types.specs.declared.queue.Queued.{Queued}
 use Rattle.cs_types.specs.Queue.{queued_of}
 use Rattle.core_lanes.proofs.Lists.{All-find}
 use Rattle.tree_queue.specs.Held.{first_among, IsIn}
-use Rattle.tree_queue.proofs.Asked.{none_of}
+use Rattle.core_lanes.proofs.Queues.{none_of}
 use Rattle.tree_queue.proofs.Firsts.{told_first, found_first_by}
 use Rattle.tree_queue.proofs.first.find_first.Goals as goal
 

@@ -6,7 +6,7 @@ use Rattle.cs_types.specs.declared.task.Task.{Task}
 use Rattle.cs_types.specs.Queue.{queued_of}
 use Rattle.core_lanes.proofs.Lists.{All-find}
 use Rattle.tree_queue.specs.Held.{first_among, IsInBut}
-use Rattle.tree_queue.proofs.Asked.{none_of}
+use Rattle.core_lanes.proofs.Queues.{none_of}
 use Rattle.tree_queue.proofs.Firsts.{told_first, found_first_by, first_known, first_in}
 use Rattle.tree_queue.proofs.first.find_first_with.Goals as goal
 

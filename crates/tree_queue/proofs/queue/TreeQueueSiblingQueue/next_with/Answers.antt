@@ -3,7 +3,8 @@ use Rattle.cs_types.specs.Order.{first_of}
 use Rattle.cs_types.specs.Queue.{queued_of}
 use Rattle.core_lanes.specs.Queued.{queued_among, with_cookie, behind}
 use Rattle.tree_queue.proofs.Tasks.{ranked, low_priority}
-use Rattle.tree_queue.proofs.Asked.{low_among, next_behind, found_behind, none_of, found_queued}
+use Rattle.core_lanes.proofs.Queues.{none_of, found_queued}
+use Rattle.tree_queue.proofs.Asked.{low_among, next_behind, found_behind}
 use Rattle.tree_queue.proofs.Compared.{few_of_all}
 use Rattle.tree_queue.proofs.queue.TreeQueueSiblingQueue.next_with.Goals as goal
 
