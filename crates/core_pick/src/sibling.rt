@@ -57,7 +57,7 @@ fn take<Q: Drop>(
     if chosen.is_none() {
         lane.idle_occupation = occupation;
     }
-    if is_fair && renews {
+    if renews && is_fair {
         lane.snapshot = lane.least;
     }
 }
