@@ -20,7 +20,7 @@ use core_clock::{online_home, rehome, wake_at_home};
 use core_lanes::{Core, SiblingQueue, charge, task_of};
 use core_pick::{pick_and_balance, schedule};
 use core_tasks::State;
-use cpu_hotplug::{Hotplug, offline, online, online_count};
+use cpu_hotplug::{Hotplug, offline, online, is_smt_off};
 use cs_outside::Guard;
 use cs_types::{Ask, Cpu, Errno, Event, Pid, Policy, Reply, Steps, Task, TaskSpec};
 use fork_inherit::{ForkFault, has_threads};
@@ -347,8 +347,8 @@ fn prctl<Q: SiblingQueue, G: Guard, L: Ledger>(
     ensures makes { Makes state.old state.new (Event.Prctl pid ask) result }
     ensures counted { ComparesForEvent state.old (Event.Prctl pid ask) steps.old steps.new }
 {
-    let online = online_count(&state.core);
-    state.prctl(online, pid, ask, steps)
+    let smt_off = is_smt_off(&state.core);
+    state.prctl(smt_off, pid, ask, steps)
 }
 
 /// Makes the step of an event, and answers what the rules answer. It compares no more keys than the event's calls of a queue

@@ -1,5 +1,5 @@
 -- Cookies: what a setting makes of the state.
-use Rattle.std.specs.Prelude.{◌≡◌, ◌≢◌, ℕ, ◌+◌, ◌*◌, ◌^◌, ◌<◌, ◌||◌, List, length, All, Some, false, slice_index_or}
+use Rattle.std.specs.Prelude.{◌≡◌, ◌≢◌, ℕ, ◌+◌, ◌*◌, ◌^◌, ◌<◌, ◌||◌, Bool, nat_lt, List, length, All, Some, false, slice_index_or}
 use Rattle.cs_types.specs.declared.task.Task.{Task}
 use Rattle.cs_types.specs.Room.{SiblingState, Interval, absent, online as siblings_online}
 use Rattle.cs_types.specs.Selection.{is_run}
@@ -36,11 +36,11 @@ pub record MaySetOne {Q G : Type 0} {g : Ghosts Q} (cookie : ℕ) (state : State
   pub may : MaySet cookie 2 state
   pub there : IsOf state.tasks.tasks task
 
--- a task may call `prctl`, while so many siblings are online: touches, a cookie's serial and each guard's count are left
-pub record MayCall {Q G : Type 0} {g : Ghosts Q} (online : ℕ) (state : State Q G g) : Type 0 where
+-- a task may call `prctl`, where the test says whether fewer than two siblings are online: touches, a cookie's serial and each guard's count are left
+pub record MayCall {Q G : Type 0} {g : Ghosts Q} (smt_off : Bool) (state : State Q G g) : Type 0 where
   pub sound : IsSound state
   pub own : RunTheirOwn (both state)
-  pub count : (intervals : List Interval) → length (siblings_online (room_with intervals state)) ≡ online
+  pub siblings : (intervals : List Interval) → nat_lt (length (siblings_online (room_with intervals state))) 2 ≡ smt_off
   pub touches : state.core.task_number + 2 * length state.tasks.tasks + 2 < 2 ^ 64
   pub serial : state.refs.next < 2 ^ 63
   pub asked : All (λ guard. guard.asked < 2 ^ 62) state.guards.guards.all

@@ -1,6 +1,6 @@
 //! Cookies: what a plan of `prctl` sets. It is a file of its own since no other event sets one.
 
-ghost use Rattle.std.specs.Prelude.{◌≡◌, ◌+◌, ◌*◌, ◌<◌, ◌≤◌, ◌∷◌, [], length, map};
+ghost use Rattle.std.specs.Prelude.{◌≡◌, ◌+◌, ◌*◌, ◌<◌, ◌≤◌, ◌∷◌, [], length, map, nat_lt};
 ghost use Rattle.cs_types.specs.declared.event.Event.TheVariants.{Prctl};
 ghost use Rattle.cs_types.specs.Touches.{cookie_touches};
 ghost use Rattle.task_table.specs.Group.{group_above};
@@ -19,6 +19,13 @@ use cs_types::{Ask, Cookie, Cpu, Pid, Reply, Steps, Task};
 use prctl_core::{Planned, Target, plan};
 use std::sync::ledger::Ledger;
 use task_table::Group;
+
+/// A number of siblings that are online, one where SMT is off, and else two: a plan asks no more of it.
+fn siblings_where(smt_off: bool) -> u8
+    ensures { nat_lt result 2 ≡ smt_off }
+{
+    if smt_off { 1 } else { 2 }
+}
 
 /// The home of the task with the pid becomes pending where it runs it. No other sibling does.
 fn flag_home<Q: Drop>(lanes: &mut [Lane<Q>], home: Cpu, pid: Pid)
@@ -91,15 +98,15 @@ impl<Q: SiblingQueue, G: Guard> State<Q, G> {
         }
     }
 
-    /// A call of `prctl(PR_SCHED_CORE, ..)` by the task with the pid, where so many siblings are online.
+    /// A call of `prctl(PR_SCHED_CORE, ..)` by the task with the pid, where the test says whether SMT is off.
     pub fn prctl<L: Ledger>(
         &mut self,
-        online: u8,
+        smt_off: bool,
         pid: Pid,
         ask: Ask,
         steps: &mut Steps<L>,
     ) -> Reply
-        requires { MayCall online self.old }
+        requires { MayCall smt_off self.old }
         ensures makes { Makes self.old self.new (Prctl pid ask) result }
         ensures counted { ComparesFor (length self.old.tasks.tasks) (both self.old) steps.old steps.new }
     {
@@ -107,7 +114,7 @@ impl<Q: SiblingQueue, G: Guard> State<Q, G> {
             &self.tasks,
             &mut self.refs,
             &mut self.guards,
-            online,
+            siblings_where(smt_off),
             self.user_top,
             pid,
             &ask,

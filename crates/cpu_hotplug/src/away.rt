@@ -1,7 +1,7 @@
 //! Which siblings are online, and what one that leaves or comes back makes of them. It is apart, since it
 //! reads and changes siblings alone, and no task.
 
-ghost use Rattle.std.specs.Prelude.{◌≡◌, ◌<◌, ◌≤◌, length, map};
+ghost use Rattle.std.specs.Prelude.{◌≡◌, ◌<◌, ◌≤◌, length, map, nat_lt};
 ghost use Rattle.std.specs.List.{enumerate_from};
 ghost use Rattle.cs_types.specs.Room.{online as siblings_online};
 ghost use Rattle.cs_types.specs.Hotplug.{lowest_other, away, stand_by, left, back};
@@ -25,6 +25,21 @@ pub fn online_count<Q: SiblingQueue>(core: &Core<Q>) -> u8
         }
     }
     count as u8
+}
+
+/// Whether SMT is off, as it is where fewer than two siblings are online (`sched_smt_present`). No more siblings are
+/// looked at than tell it.
+pub fn is_smt_off<Q: SiblingQueue>(core: &Core<Q>) -> bool
+    ensures { (beside : Beside) (table : Table) → result ≡ nat_lt (length (siblings_online (room_of beside (core.now, table)))) 2 }
+{
+    let mut count: usize = 0;
+    for lane in core.lanes.iter() {
+        count += usize::from(lane.online);
+        if count == 2 {
+            return false;
+        }
+    }
+    true
 }
 
 /// The lowest other sibling that is online.

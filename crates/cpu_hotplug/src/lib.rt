@@ -5,5 +5,5 @@ mod away;
 mod hotplug;
 mod moves;
 
-pub use away::online_count;
+pub use away::is_smt_off;
 pub use hotplug::{Hotplug, offline, online};

@@ -231,7 +231,7 @@ module _ (room : RoomState) (pid : ℕ) (ask : Ask) (called : Called) (is : IsCa
 
   -- ---- a CREATE, at the limit and below it
 
-  pub create_plan : (table : Table) (old new : Refs) (guards : GuardList) (online top : ℕ) (planned : Planned) → IsRoomOf room table old guards online top →
+  pub create_plan : (table : Table) (old new : Refs) (guards : GuardList) (count top : ℕ) (planned : Planned) → IsRoomOf room table old guards count top →
       called.command ≡ Create → (first now : GuardList) → first ≡ asked_first →
       (length (live_cookies table.tasks) ≡ old.limit → IsFull old new first now planned) →
       (length (live_cookies table.tasks) ≢ old.limit → IsMade old new first now table.tasks called planned) → IsPlanOf room pid ask planned new now

@@ -51,9 +51,9 @@ named (Process pgid) tasks = filter (λ task. task.spec.pgid == pgid) tasks
 -- ---- plans
 
 -- a room whose parts a plan is handed
-pub record IsRoomOf (room : RoomState) (table : Table) (refs : Refs) (known : GuardList) (siblings top : ℕ) : Type 0 where
+pub record IsRoomOf (room : RoomState) (table : Table) (refs : Refs) (known : GuardList) (count top : ℕ) : Type 0 where
   pub tasks : room.tasks ≡ table.tasks
-  pub online : length (online room) ≡ siblings
+  pub siblings : nat_lt (length (online room)) 2 ≡ nat_lt count 2
   pub user_top : room.user_top ≡ top
   pub cookie_limit : room.cookie_limit ≡ refs.limit
   pub next_cookie : room.next_cookie ≡ refs.next

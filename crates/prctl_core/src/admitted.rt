@@ -1,6 +1,6 @@
 //! Whether a call is admitted: what is asked of every command before it comes to its own conditions.
 
-ghost use Rattle.std.specs.Prelude.{◌≡◌, ◌+◌, ◌<◌, ◌^◌, length, find, All, IfSome, Some, IfOk, IfErr, option_copied};
+ghost use Rattle.std.specs.Prelude.{◌≡◌, ◌+◌, ◌<◌, ◌^◌, length, find, nat_lt, All, IfSome, Some, IfOk, IfErr, option_copied};
 ghost use Rattle.cs_types.specs.Guards.{asked_each};
 ghost use Rattle.cs_types.specs.Room.{RoomState, has_pid, online as siblings_online};
 ghost use Rattle.cs_types.specs.Prctl.{named_by};
@@ -36,7 +36,7 @@ fn named_by<'a>(table: &'a TaskTable, caller: &'a Task, pid: i32) -> Option<&'a 
     }
 }
 
-/// The call, where it is admitted, or its answer.
+/// The call, where it is admitted, or its answer. Of `online` it only matters whether it is below 2.
 pub fn admit<'a, G: Guard>(
     table: &'a TaskTable,
     guards: &mut Guards<G>,
@@ -45,11 +45,11 @@ pub fn admit<'a, G: Guard>(
     ask: &Ask,
 ) -> Result<Called<'a>, Reply>
     requires asked { All (λ guard. guard.asked < 2 ^ 62) guards.old.guards.all }
-    ensures admits { (room : RoomState) → room.tasks ≡ table.now.tasks → length (siblings_online room) ≡ online →
+    ensures admits { (room : RoomState) → room.tasks ≡ table.now.tasks → nat_lt (length (siblings_online room)) 2 ≡ nat_lt online 2 →
         room.guards ≡ guards.old.guards → Admits room caller ask.now result }
     ensures refused { IfErr result IsRefusal }
     ensures there { IfOk result (λ called. AreThere table.now called) }
-    ensures asked { (room : RoomState) → room.tasks ≡ table.now.tasks → length (siblings_online room) ≡ online →
+    ensures asked { (room : RoomState) → room.tasks ≡ table.now.tasks → nat_lt (length (siblings_online room)) 2 ≡ nat_lt online 2 →
         room.guards ≡ guards.old.guards →
         guards.new.guards ≡ asked_each room.guards (asked_to_admit room caller ask.now result) }
     ensures counts { All (λ guard. guard.asked < 2 ^ 62 + 16) guards.new.guards.all }

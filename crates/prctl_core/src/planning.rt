@@ -119,7 +119,8 @@ fn share(
 }
 
 /// What a call of `prctl(PR_SCHED_CORE, ..)` by the task with the pid comes to, where `online` siblings
-/// are online and the caller's address space has `user_top` bytes, 8192 to 9223372036854775807.
+/// are online, of which more than two need not be counted, and the caller's address space has `user_top`
+/// bytes, 8192 to 9223372036854775807.
 ///
 /// `Answer` carries `NoCaller`, or the error of the first row of the table that applies. `Go` says
 /// whose cookie becomes which, and the answer: `Zero`, or `Value` for a GET. The plan holds one

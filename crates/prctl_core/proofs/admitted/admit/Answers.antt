@@ -1,5 +1,5 @@
 use Rattle.std.proofs.Common.{rules, ◌≡◌, ◌∙◌, ℕ, List, [], sym, ap, Some, None}
-use Rattle.std.specs.Prelude.{nat_lt, find, Option, All, ◌+◌, ◌*◌, ◌^◌, ◌<◌, ◌≤◌, length}
+use Rattle.std.specs.Prelude.{find, Option, All, ◌+◌, ◌*◌, ◌^◌, ◌<◌, ◌≤◌, length}
 use Rattle.std.proofs.Common.{arith, subst}
 use Rattle.std.proofs.lemmas.List.Elements.{All-weaker}
 use Rattle.cs_types.specs.declared.task.TaskSpec.{TaskSpec}
@@ -45,26 +45,26 @@ pub returns-then-online-lt2-clause-admits : goal.returns-then-online-lt2-clause-
 returns-then-online-lt2-clause-admits g c room same there guarded =
     as_asked (few_online room c.args.caller c.args.ask.now c.in-Some.by.now
     (caller_in room _ c.args.caller _ same c.in-Some.ensures.task)
-    (ap (λ n. nat_lt n 2) there ∙ lt-ltb _ _ c.if-online-lt2.true))
+    (there ∙ lt-ltb _ _ c.if-online-lt2.true))
 
 pub returns-then-online-lt2-clause-asked : goal.returns-then-online-lt2-clause-asked
 returns-then-online-lt2-clause-asked g c room same there guarded =
     nobody_asked room _ _ guarded (few_online room c.args.caller c.args.ask.now c.in-Some.by.now
     (caller_in room _ c.args.caller _ same c.in-Some.ensures.task)
-    (ap (λ n. nat_lt n 2) there ∙ lt-ltb _ _ c.if-online-lt2.true)).asks
+    (there ∙ lt-ltb _ _ c.if-online-lt2.true)).asks
 
 pub returns-in_default-arguments-clause-admits : goal.returns-in_default-arguments-clause-admits
 returns-in_default-arguments-clause-admits g c room same there guarded =
     as_asked (invalid room c.args.caller c.args.ask.now c.in-Some.by.now
     (caller_in room _ c.args.caller _ same c.in-Some.ensures.task)
-    (ap (λ n. nat_lt n 2) there ∙ le-ltb _ _ c.if-online-lt2.false)
+    (there ∙ le-ltb _ _ c.if-online-lt2.false)
     (sym c.in_default-arguments.ensures.invalid))
 
 pub returns-in_default-arguments-clause-asked : goal.returns-in_default-arguments-clause-asked
 returns-in_default-arguments-clause-asked g c room same there guarded =
     nobody_asked room _ _ guarded (invalid room c.args.caller c.args.ask.now c.in-Some.by.now
     (caller_in room _ c.args.caller _ same c.in-Some.ensures.task)
-    (ap (λ n. nat_lt n 2) there ∙ le-ltb _ _ c.if-online-lt2.false)
+    (there ∙ le-ltb _ _ c.if-online-lt2.false)
     (sym c.in_default-arguments.ensures.invalid)).asks
 
 pub named_by-requires : goal.named_by-requires
@@ -75,7 +75,7 @@ returns-in_default-named_by-clause-admits g c room same there guarded =
     let fits : SFits w32 c.args.ask.now.pid = search rules in
     let by = caller_in room _ c.args.caller _ same c.in-Some.ensures.task in
     as_asked (no_target room c.args.caller c.args.ask.now c.in-Some.by.now by
-    (ap (λ n. nat_lt n 2) there ∙ le-ltb _ _ c.if-online-lt2.false)
+    (there ∙ le-ltb _ _ c.if-online-lt2.false)
     (sym c.in-Some-arguments.ensures.invalid)
     (target_in room c.args.caller c.args.ask.now c.in-Some.by.now None by (simp to_z-of_z at c.in_default-named_by.ensures.named room same)))
 
@@ -84,7 +84,7 @@ returns-in_default-named_by-clause-asked g c room same there guarded =
     let fits : SFits w32 c.args.ask.now.pid = search rules in
     let by = caller_in room _ c.args.caller _ same c.in-Some.ensures.task in
     nobody_asked room _ _ guarded (no_target room c.args.caller c.args.ask.now c.in-Some.by.now by
-    (ap (λ n. nat_lt n 2) there ∙ le-ltb _ _ c.if-online-lt2.false)
+    (there ∙ le-ltb _ _ c.if-online-lt2.false)
     (sym c.in-Some-arguments.ensures.invalid)
     (target_in room c.args.caller c.args.ask.now c.in-Some.by.now None by (simp to_z-of_z at c.in_default-named_by.ensures.named room same))).asks
 
@@ -93,7 +93,7 @@ returns-then-not-may_access-clause-admits g c room same there guarded =
     let fits : SFits w32 c.args.ask.now.pid = search rules in
     let by = caller_in room _ c.args.caller _ same c.in-Some.ensures.task in
     as_asked (no_access room c.args.caller c.args.ask.now c.in-Some.by.now c.in-Some-named_by.target.now by
-    (ap (λ n. nat_lt n 2) there ∙ le-ltb _ _ c.if-online-lt2.false)
+    (there ∙ le-ltb _ _ c.if-online-lt2.false)
     (sym c.in-Some-arguments.ensures.invalid)
     (target_in room c.args.caller c.args.ask.now c.in-Some.by.now _ by (simp to_z-of_z at c.in-Some-named_by.ensures.named room same))
     (ap (λ (guards : GuardList). may_access guards c.in-Some.by.now.spec c.in-Some-named_by.target.now.spec) guarded ∙ sym c.may_access.ensures.decision ∙ c.if-not-may_access.true))
@@ -103,7 +103,7 @@ returns-then-not-may_access-clause-asked g c room same there guarded =
     let fits : SFits w32 c.args.ask.now.pid = search rules in
     let by = caller_in room _ c.args.caller _ same c.in-Some.ensures.task in
     let settles = no_access room c.args.caller c.args.ask.now c.in-Some.by.now c.in-Some-named_by.target.now by
-    (ap (λ n. nat_lt n 2) there ∙ le-ltb _ _ c.if-online-lt2.false)
+    (there ∙ le-ltb _ _ c.if-online-lt2.false)
     (sym c.in-Some-arguments.ensures.invalid)
     (target_in room c.args.caller c.args.ask.now c.in-Some.by.now _ by (simp to_z-of_z at c.in-Some-named_by.ensures.named room same))
     (ap (λ (guards : GuardList). may_access guards c.in-Some.by.now.spec c.in-Some-named_by.target.now.spec) guarded ∙ sym c.may_access.ensures.decision ∙ c.if-not-may_access.true) in

@@ -1,4 +1,4 @@
-use Rattle.std.proofs.Common.{refl}
+use Rattle.std.proofs.Common.{◌∙◌, sym, refl}
 use Rattle.prctl_core.specs.Plan.{IsRoomOf}
 use Rattle.cookie_refs.proofs.Agreements.{Agree-put}
 use Rattle.core_tasks.specs.State.{room_with}
@@ -9,8 +9,8 @@ pub returns-in-Go-clause-makes : goal.returns-in-Go-clause-makes
 returns-in-Go-clause-makes g c = record {
   step = λ intervals.
       let room = room_with intervals c.args.self.now in
-      let is : IsRoomOf room c.args.self.now.tasks c.args.self.now.refs c.args.self.now.guards.guards c.args.online c.args.self.now.user_top =
-      record { tasks = refl; online = c.requires.count intervals; user_top = refl; cookie_limit = refl; next_cookie = refl; guards = refl } in
+      let is : IsRoomOf room c.args.self.now.tasks c.args.self.now.refs c.args.self.now.guards.guards c.siblings_where.result c.args.self.now.user_top =
+      record { tasks = refl; siblings = c.requires.siblings intervals ∙ sym c.siblings_where.ensures; user_top = refl; cookie_limit = refl; next_cookie = refl; guards = refl } in
       makes_call intervals c.args.self.now _ c.set_cookies.new.self _ c.args.pid c.args.ask c.in-Go.decision
       (c.in-Go.ensures.answer room is) (c.in-Go.ensures.sets room is)
       (λ i. record room { cookie_limit = c.in-Go.ensures.limit i; next_cookie = c.in-Go.ensures.serial room is i; guards = c.in-Go.ensures.asked room is i }) refl
@@ -45,8 +45,8 @@ pub returns-in-Answer-clause-makes : goal.returns-in-Answer-clause-makes
 returns-in-Answer-clause-makes g c = record {
   step = λ intervals.
       let room = room_with intervals c.args.self.now in
-      let is : IsRoomOf room c.args.self.now.tasks c.args.self.now.refs c.args.self.now.guards.guards c.args.online c.args.self.now.user_top =
-      record { tasks = refl; online = c.requires.count intervals; user_top = refl; cookie_limit = refl; next_cookie = refl; guards = refl } in
+      let is : IsRoomOf room c.args.self.now.tasks c.args.self.now.refs c.args.self.now.guards.guards c.siblings_where.result c.args.self.now.user_top =
+      record { tasks = refl; siblings = c.requires.siblings intervals ∙ sym c.siblings_where.ensures; user_top = refl; cookie_limit = refl; next_cookie = refl; guards = refl } in
       makes_refusal intervals c.args.self.now _ c.args.pid c.args.ask c.in-Answer.reply c.in-Answer.ensures.planned (c.in-Answer.ensures.answer room is)
       (λ i. record room { cookie_limit = c.in-Answer.ensures.limit i; next_cookie = c.in-Answer.ensures.serial room is i; guards = c.in-Answer.ensures.asked room is i }) refl;
   stays = record {
