@@ -89,18 +89,17 @@ pub Agree-put : (refs put : Refs) (tasks : List Task) (held : ℕ) →
     ((other : ℕ) → count_of put other + references held other ≡ count_of refs other) → AgreeBut refs tasks held → Agree put tasks
 Agree-put refs put tasks held counts agree other = omega (arith, counts other, agree other, references_none other)
 
--- A task's cookie changes: the new one is got, and then the old one put.
-pub AgreeBut-with_cookie : (refs got put : Refs) (tasks : List Task) (held pid cookie : ℕ) (task : Task) →
+-- A task's cookie changes: its reference goes from the old one to the new one.
+pub AgreeBut-with_cookie : (refs now : Refs) (tasks : List Task) (held pid cookie : ℕ) (task : Task) →
     AllPairs (λ one other. one.spec.pid < other.spec.pid) tasks → find (λ other. other.spec.pid == pid) tasks ≡ Some task →
-    ((other : ℕ) → count_of got other ≡ count_of refs other + references cookie other) →
-    ((other : ℕ) → count_of put other + references task.cookie other ≡ count_of got other) →
+    ((other : ℕ) → count_of now other + references task.cookie other ≡ count_of refs other + references cookie other) →
     AgreeBut refs tasks held →
-    AgreeBut put (map (λ other. cond (other.spec.pid == task.spec.pid) (record task { cookie = cookie }) other) tasks) held
-AgreeBut-with_cookie refs got put tasks held pid cookie task rising found gets puts agree other =
+    AgreeBut now (map (λ other. cond (other.spec.pid == task.spec.pid) (record task { cookie = cookie }) other) tasks) held
+AgreeBut-with_cookie refs now tasks held pid cookie task rising found moved agree other =
     let pid_is : task.spec.pid ≡ pid = eqb-true task.spec.pid pid (find_passes (λ (other : Task). other.spec.pid == pid) tasks task found) in
     let replaced = sum_by-replaced (λ (task : Task). task.spec.pid) (λ (task : Task). references task.cookie other) task.spec.pid (record task { cookie = cookie }) tasks task rising
     (subst (λ n. find (λ (other : Task). other.spec.pid == n) tasks ≡ Some task) (sym pid_is) found) in
-    omega (arith, gets other, puts other, agree other, replaced)
+    omega (arith, moved other, agree other, replaced)
 
 -- A task is put in its place, where no other has its pid, and its cookie got.
 pub AgreeBut-inserted : (refs got : Refs) (tasks : List Task) (held : ℕ) (task : Task) → find (has_pid task.spec.pid) tasks ≡ None →

@@ -142,6 +142,25 @@ impl CookieRefs {
         }
     }
 
+    /// One reference to the one cookie less, and one more to the other (`sched_core_update_cookie`). Nothing changes where
+    /// they are the same.
+    #[inline(always)]
+    pub fn exchange(&mut self, from: Cookie, to: Cookie)
+        requires live { to ≢ 0 → 0 < count_of self.old to }
+        requires few { count_of self.old to < 2 ^ 31 }
+        requires own { from ≢ 0 → 0 < count_of self.old from }
+        ensures counts { (other : ℕ) →
+            count_of self.new other + references from other ≡ count_of self.old other + references to other }
+        ensures next { self.new.next ≡ self.old.next }
+        ensures limit { self.new.limit ≡ self.old.limit }
+    {
+        if from == to {
+            return;
+        }
+        self.get(to);
+        self.put(from);
+    }
+
     /// How many references a cookie has: 0 where it is not live, and for 0.
     pub fn count(&self, cookie: Cookie) -> u32
         ensures count { result ≡ count_of self.now cookie }

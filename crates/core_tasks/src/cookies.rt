@@ -57,8 +57,7 @@ impl<Q: SiblingQueue, G: Guard> State<Q, G> {
         ensures sets { SetsCookies self.old self.new (task.now ∷ []) cookie }
         ensures counted { ComparesFor 1 (both self.old) steps.old steps.new }
     {
-        self.refs.get(cookie);
-        self.refs.put(task.cookie);
+        self.refs.exchange(task.cookie, cookie);
         self.core.set_cookie(&mut self.tasks, task, cookie, steps);
         self.core.task_number += touches(task, cookie);
         flag_home(&mut self.core.lanes, task.home, task.spec.pid);

@@ -21,18 +21,14 @@ use Rattle.core_tasks.proofs.state.State.set_cookie.Goals as goal
 use Rattle.cs_types.proofs.Spots.{replaced_by}
 use Rattle.std.proofs.lemmas.List.Elements.{All-weaker}
 
-pub get-requires-clause-few : goal.get-requires-clause-few
-get-requires-clause-few g c =
+pub exchange-requires-clause-few : goal.exchange-requires-clause-few
+exchange-requires-clause-few g c =
     let sound = c.requires.may.sound in
     omega (arith, sound.agree.table.few, sound.agree.few_tasks, count_of-le c.args.self.now.refs c.args.self.now.tasks.tasks c.args.cookie sound.refs c.args.cookie)
 
-pub put-requires : goal.put-requires
-put-requires g c own =
-    omega (
-      arith,
-      c.get.ensures.counts c.args.task.now.cookie,
-      own_cookie_is_live c.args.self.now.refs c.args.self.now.tasks.tasks c.args.cookie c.args.task.now.spec.pid c.args.task.now c.requires.there c.requires.may.sound.refs own,
-    )
+pub exchange-requires-clause-own : goal.exchange-requires-clause-own
+exchange-requires-clause-own g c own =
+    own_cookie_is_live c.args.self.now.refs c.args.self.now.tasks.tasks c.args.cookie c.args.task.now.spec.pid c.args.task.now c.requires.there c.requires.may.sound.refs own
 
 pub returns-clause-sets : goal.returns-clause-sets
 returns-clause-sets g c =
@@ -61,8 +57,8 @@ returns-clause-sets g c =
     let stays = alike_stays (mid, c.set_cookie.new.table) _ queues refl refl in
     record {
       room = λ intervals.
-          sets_one (beside_of intervals old) c.put.new.self.limit c.put.new.self.next touches (bare old.core) core old.tasks c.set_cookie.new.table c.args.task.now c.args.cookie
-          c.requires.may.sound.agree.table.rising there table (c.put.ensures.limit ∙ c.get.ensures.limit) (c.put.ensures.next ∙ c.get.ensures.next) is;
+          sets_one (beside_of intervals old) c.exchange.new.self.limit c.exchange.new.self.next touches (bare old.core) core old.tasks c.set_cookie.new.table c.args.task.now c.args.cookie
+          c.requires.may.sound.agree.table.rising there table c.exchange.ensures.limit c.exchange.ensures.next is;
       numbers = (λ i. with_ended old.ended.items (numbers_by (is i) (table i))) ∙ ap (λ n. touched n (state_numbers old)) (touches_alone c.args.task.now c.args.cookie touches c.touches.ensures.touches);
       stays = record {
         sound = λ sound. record {
@@ -80,9 +76,9 @@ returns-clause-sets g c =
                     (found_in (λ (task : Task). task.spec.pid ≢ one.0) pid tasks c.args.task.now gone.absent there) gone.absent;
                 alone = gone.alone;
               }) old.ended.items sound.ended);
-          refs = subst (λ (t : Table). AgreeBut c.put.new.self t.tasks c.args.cookie) (sym table)
-              (AgreeBut-with_cookie old.refs c.get.new.self c.put.new.self tasks c.args.cookie pid c.args.cookie c.args.task.now
-              (rising_pairs 0 tasks sound.agree.table.rising) there c.get.ensures.counts c.put.ensures.counts sound.refs);
+          refs = subst (λ (t : Table). AgreeBut c.exchange.new.self t.tasks c.args.cookie) (sym table)
+              (AgreeBut-with_cookie old.refs c.exchange.new.self tasks c.args.cookie pid c.args.cookie c.args.task.now
+              (rising_pairs 0 tasks sound.agree.table.rising) there c.exchange.ensures.counts sound.refs);
         };
         siblings = ap (λ (k : Kept). k.siblings) stays.kept ∙ as_many_bare old.core mid same;
         ends = refl;
@@ -92,8 +88,8 @@ returns-clause-sets g c =
 pub set_cookie-requires-clause-agree : goal.set_cookie-requires-clause-agree
 set_cookie-requires-clause-agree g c = c.requires.may.sound.agree
 
-pub get-requires-clause-live : goal.get-requires-clause-live
-get-requires-clause-live g c = held_cookie_is_live c.args.self.now.refs c.args.self.now.tasks.tasks c.args.cookie c.requires.may.sound.refs
+pub exchange-requires-clause-live : goal.exchange-requires-clause-live
+exchange-requires-clause-live g c = held_cookie_is_live c.args.self.now.refs c.args.self.now.tasks.tasks c.args.cookie c.requires.may.sound.refs
 
 pub overflow_add-self : goal.overflow_add-self
 overflow_add-self g c = omega (arith, ap (λ (b : BareCore). b.task_number) c.set_cookie.ensures.replaces.bare, c.requires.may.touches, c.touches.ensures.few)
