@@ -34,7 +34,9 @@ fn flag_home<Q: Drop>(lanes: &mut [Lane<Q>], home: Cpu, pid: Pid)
     ensures { ChangesLanes lanes.old lanes.new (map (flagged_for pid)) }
 {
     let lane = &mut lanes[home as usize];
-    lane.pending |= lane.runs(pid);
+    if lane.runs(pid) {
+        lane.pending = true;
+    }
 }
 
 /// How often the queues are touched where the task gets the cookie.
