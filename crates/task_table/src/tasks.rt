@@ -32,15 +32,13 @@ impl<'a> Model for Tasks<'a> {
     ghost invariant = { λ left. IsWalk left.slots.now left.entries.now left.group left.most };
 }
 
-/// At most so many are left behind the next one of a group. `None` where none was left. Those of all tasks are not counted.
+/// At most so many are left behind the next one. `None` where none was left. Those of all tasks are counted too, since to
+/// tell these from a group takes longer.
 #[inline(always)]
-fn behind_next(group: Group, most: usize) -> Option<usize>
+fn behind_next(most: usize) -> Option<usize>
     ensures { MatchOption result (most ≡ 0) (λ behind. most ≤ behind + 1) }
 {
-    match group {
-        Group::All => Some(most),
-        _ => most.checked_sub(1),
-    }
+    most.checked_sub(1)
 }
 
 impl<'a> Iterator for Tasks<'a> {
@@ -52,7 +50,7 @@ impl<'a> Iterator for Tasks<'a> {
 
     #[inline(always)]
     fn next(&mut self) -> Option<&'a Task> {
-        let behind = behind_next(self.group, self.most)?;
+        let behind = behind_next(self.most)?;
         let position = first_in(self.entries, self.group)?;
         self.most = behind;
         let key = self.entries[position].key;
