@@ -8,3 +8,4 @@ pub mod Totals
 pub mod Blocks
 pub mod Walks
 pub mod Noted
+pub mod Charged

@@ -1,6 +1,6 @@
 //! An entry of the index. The index alone knows the order of the pids.
 
-ghost use Rattle.std.specs.Prelude.{◌≡◌, ◌≤◌, IsTrue, MatchResult, List, length, drop};
+ghost use Rattle.std.specs.Prelude.{◌≡◌, ◌<◌, ◌≤◌, IsTrue, IfSome, MatchResult, List, length, drop};
 ghost use Rattle.cs_types.specs.declared.task.Task.{Task as SomeTask};
 ghost use Rattle.task_table.specs.Table.{Rises};
 ghost use Rattle.std.specs.List.{list_any, position, position_from};
@@ -8,6 +8,7 @@ ghost use Rattle.task_table.specs.Positions.{IsIndexOf, IsAt, IsGap, IsAbove};
 ghost use Rattle.task_table.specs.Inside.{tells_group};
 
 use crate::group::Group;
+use crate::places::MOST_GONE;
 use cs_types::{Pid, TaskSpec};
 
 /// Where the task with a pid is kept, of which groups it is, and what it was charged. A walk over a group reads the
@@ -120,7 +121,8 @@ pub(crate) fn first_in(entries: &[Entry], group: Group) -> Option<usize>
 }
 
 /// Whether the pid is above those of all entries, which rise by pid. A child's is.
-fn is_above_all(entries: &[Entry], pid: Pid) -> bool
+#[inline(always)]
+pub(crate) fn is_above_all(entries: &[Entry], pid: Pid) -> bool
     ensures { IsTrue result → (tasks : List SomeTask) → IsIndexOf entries.now tasks → Rises tasks →
         IsGap pid (length entries.now) tasks }
 {
@@ -128,6 +130,21 @@ fn is_above_all(entries: &[Entry], pid: Pid) -> bool
         Some(last) => last.pid < pid,
         None => false,
     }
+}
+
+/// The position of the entry with the pid, where it is shortly before the one that was noted: some that stood before it
+/// may have gone since then.
+fn near(entries: &[Entry], noted: usize, pid: Pid) -> Option<usize>
+    ensures within { IfSome result (λ position. position < length entries.now) }
+    ensures at { (tasks : List SomeTask) → IsIndexOf entries.now tasks → Rises tasks → IfSome result (λ position. IsAt pid position tasks) }
+{
+    let end = entries.len().min(noted);
+    for position in (end.saturating_sub(MOST_GONE)..end).rev() {
+        if entries[position].pid == pid {
+            return Some(position);
+        }
+    }
+    None
 }
 
 /// The position of the entry with the pid, or the position where it would go. The entries rise by pid. It is
@@ -144,6 +161,19 @@ pub(crate) fn position_of(entries: &[Entry], pid: Pid) -> Result<usize, usize>
     entries.binary_search_by_key(&pid, |entry| entry.pid)
 }
 
+/// The same, where it is not at the position that was noted. It is looked for shortly before that first.
+#[cold]
+#[inline(never)]
+pub(crate) fn position_by(entries: &[Entry], noted: usize, pid: Pid) -> Result<usize, usize>
+    ensures { (tasks : List SomeTask) → IsIndexOf entries.now tasks → Rises tasks →
+        MatchResult result (λ position. IsAt pid position tasks) (λ position. IsGap pid position tasks) }
+{
+    match near(entries, noted, pid) {
+        Some(position) => Ok(position),
+        None => position_of(entries, pid),
+    }
+}
+
 /// Whether the pid is below those of all entries, which rise by pid. It is where a walk begins.
 fn is_below_all(entries: &[Entry], pid: Pid) -> bool
     ensures { IsTrue result → (tasks : List SomeTask) → IsIndexOf entries.now tasks → Rises tasks → IsAbove pid 0 tasks }
@@ -154,12 +184,18 @@ fn is_below_all(entries: &[Entry], pid: Pid) -> bool
     }
 }
 
-/// The position of the first entry with a greater pid, or their number. The entries rise by pid.
-pub(crate) fn position_above(entries: &[Entry], pid: Pid) -> usize
+/// The position of the first entry with a greater pid, or their number. The entries rise by pid. The one with the pid is
+/// looked for shortly before the position that was noted first.
+#[cold]
+#[inline(never)]
+pub(crate) fn position_above(entries: &[Entry], noted: usize, pid: Pid) -> usize
     ensures { (tasks : List SomeTask) → IsIndexOf entries.now tasks → Rises tasks → IsAbove pid result tasks }
 {
     if is_below_all(entries, pid) {
         return 0;
     }
-    entries.partition_point(|entry| entry.pid <= pid)
+    match near(entries, noted, pid) {
+        Some(position) => position + 1,
+        None => entries.partition_point(|entry| entry.pid <= pid),
+    }
 }

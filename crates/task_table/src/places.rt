@@ -11,12 +11,22 @@ use std::alloc::Global;
 /// number of tasks that live at once.
 const PLACES: usize = 8192;
 
+/// How many entries may go before the positions of those behind them are noted anew, a count.
+pub(crate) const MOST_GONE: usize = 16;
+
+/// Behind all entries.
+const BEHIND_ALL: usize = 65536;
+
 /// The positions of entries by their pids, as they were last noted, and the slots of their tasks.
 #[derive(Drop)]
 pub(crate) struct Places {
     noted: Vec<u16>,
     /// A task keeps its slot for life.
     slots: Vec<u16>,
+    /// How many entries have gone since the positions were noted, a count.
+    gone: usize,
+    /// No entry before this position has gone since then.
+    first_gone: usize,
     ghost all: { length noted.items ≡ 8192 },
     ghost each: { length slots.items ≡ 8192 },
 }
@@ -26,7 +36,12 @@ impl Places {
     pub fn none(alloc: Global) -> Result<Places, OutOfMemory> {
         let noted = vec![in alloc; 0; PLACES]?;
         let slots = vec![in alloc; 0; PLACES]?;
-        Ok(Places { noted, slots })
+        Ok(Places {
+            noted,
+            slots,
+            gone: 0,
+            first_gone: BEHIND_ALL,
+        })
     }
 
     /// The slot in which to look for the task with the pid.
@@ -44,6 +59,24 @@ impl Places {
     /// The position at which to look for the pid.
     pub fn of(&self, pid: Pid) -> usize {
         self.noted[pid as usize % PLACES] as usize
+    }
+
+    /// The entry at the position has gone. The positions of those behind it are noted anew once several have gone.
+    #[inline(always)]
+    pub fn forget(&mut self, entries: &[Entry], position: usize) {
+        self.first_gone = self.first_gone.min(position);
+        self.gone = self.gone.wrapping_add(1);
+        if self.gone >= MOST_GONE {
+            self.note_anew(entries);
+        }
+    }
+
+    /// Notes the positions of all entries behind the first that has gone.
+    #[inline(never)]
+    fn note_anew(&mut self, entries: &[Entry]) {
+        self.note(entries, self.first_gone);
+        self.gone = 0;
+        self.first_gone = BEHIND_ALL;
     }
 
     /// Notes the positions of the entries from this one on.

@@ -1,6 +1,7 @@
 //! The table, and what is found in it. It is apart since it alone keeps the slots and the index in step.
 
 ghost use Rattle.std.specs.Prelude.{◌≡◌, ◌≤◌, ◌&&◌, nat_lt, [], ◌∷◌, length, drop, filter, find, IsTrue, Some, IfOk, IfSome, MatchResult, MatchOption, option_copied, slice_get};
+ghost use Rattle.std.specs.Option.{option_map};
 ghost use Rattle.cs_types.specs.Room.{has_pid};
 ghost use Rattle.task_table.specs.Table.{Table, total_in, IsSound};
 ghost use Rattle.task_table.specs.Inside.{IsKept};
@@ -11,7 +12,7 @@ ghost use Rattle.task_table.specs.Positions.{IsAt, IsGap, IsAbove, IsSplit};
 
 mod changes;
 
-use crate::entry::{Entry, position_above, position_of};
+use crate::entry::{Entry, position_above, position_by, position_of};
 use crate::group::Group;
 use crate::places::Places;
 use crate::spans::{Span, Spans};
@@ -77,7 +78,7 @@ impl TaskTable {
     {
         match self.noted(pid) {
             Some(position) => Ok(position),
-            None => position_of(&self.entries, pid),
+            None => position_by(&self.entries, self.places.of(pid), pid),
         }
     }
 
@@ -121,13 +122,13 @@ impl TaskTable {
         }
     }
 
-    /// The task with the pid, by its position. It is seldom called, since most slots are noted.
+    /// The task with the pid, by a search. It is seldom called, since most slots are noted: mostly where there is none.
     #[cold]
     #[inline(never)]
     fn by_position(&self, pid: Pid) -> Option<&Task>
         ensures { option_copied result ≡ find (has_pid pid) self.now.tasks }
     {
-        match self.position_of(pid) {
+        match position_of(&self.entries, pid) {
             Ok(position) => self.slots.get(self.entries[position].key),
             Err(_) => None,
         }
@@ -161,7 +162,7 @@ impl TaskTable {
     {
         match self.noted(pid) {
             Some(position) => position + 1,
-            None => position_above(&self.entries, pid),
+            None => position_above(&self.entries, self.places.of(pid), pid),
         }
     }
 
@@ -176,6 +177,18 @@ impl TaskTable {
     {
         self.members_from(group, self.position_above(after), self.entries.len())
             .next()
+    }
+
+    /// The task with the least pid above `after`, and what it was charged for forced idle, in ns. `None` exactly where
+    /// there is none.
+    pub fn next_charged(&self, after: Pid) -> Option<(&Task, u64)>
+        ensures next { option_map (λ next. next.0.now) result ≡ find (λ task. nat_lt after task.spec.pid) self.now.tasks }
+        ensures total { IfSome result (λ next. next.1 ≡ total_in self.now next.0.now.spec.pid) }
+        ensures sound { IsSound self.now }
+    {
+        let position = self.position_above(after);
+        let task = self.at(position)?;
+        Some((task, self.entries[position].forced))
     }
 
     /// The span of the group. That of all tasks is counted anew.

@@ -15,7 +15,7 @@ ghost use Rattle.task_table.specs.Grouping.{HasMember, Counts, AreSpans};
 
 use super::TaskTable;
 use crate::edit::Edit;
-use crate::entry::{Entry, position_of};
+use crate::entry::{Entry, is_above_all, position_of};
 use crate::fault::AddFault;
 use crate::places::Places;
 use crate::spans::Spans;
@@ -98,6 +98,10 @@ impl TaskTable {
         ensures unchanged { OnErr result (self.new ≡ self.old) }
         ensures sound { IsSound self.new }
     {
+        let behind_all = self.entries.len();
+        if is_above_all(&self.entries, spec.pid) {
+            return self.insert(behind_all, spec);
+        }
         match self.position_of(spec.pid) {
             Ok(_) => Err(AddFault::Twice(spec.pid)),
             Err(position) => self.insert(position, spec),
@@ -311,6 +315,7 @@ impl TaskTable {
         let task = self.slots.remove(entry.key);
         self.threads.remove(entry.tgid);
         self.processes.remove(entry.pgid);
+        self.places.forget(&self.entries, position);
         Some((task, entry.forced))
     }
 }

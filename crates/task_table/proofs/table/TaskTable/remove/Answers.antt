@@ -60,7 +60,7 @@ remove-requires-2 c =
           (member_at kept c.args.pid c.in-Ok.position entry c.in-Ok.ensures.position c.remove-entry.ensures.value).1;
     }
 
-grouped : (c : goal.After-remove-2) → AreGrouped c.remove.new.self.all.items c.remove-2.new.self.all.items (filter (λ task. not (has_pid c.args.pid task)) c.args.self.now.tasks)
+grouped : (c : goal.After-forget) → AreGrouped c.remove.new.self.all.items c.remove-2.new.self.all.items (filter (λ task. not (has_pid c.args.pid task)) c.args.self.now.tasks)
 grouped c =
     let kept = kept_of _ _ _ _ _ _ _ c.self.view_is c.self.invariant in
     let position = c.in-Ok.position in
@@ -70,7 +70,7 @@ grouped c =
     (c.remove.ensures _ position entry.pid members.0 kept.grouped.by_threads)
     (c.remove-2.ensures _ position entry.pid members.1 kept.grouped.by_processes)
 
-after : (c : goal.After-remove-2) → IsKept c.remove-task.new.self c.remove-entry.new.self.items
+after : (c : goal.After-forget) → IsKept c.remove-task.new.self c.remove-entry.new.self.items
     c.remove.new.self.all.items c.remove-2.new.self.all.items
     (vec_capacity c.remove-entry.new.self) c.self.inside.limit (filter (λ task. not (has_pid c.args.pid task)) c.args.self.now.tasks)
 after c =
