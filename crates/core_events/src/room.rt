@@ -3,8 +3,8 @@
 
 ghost use Rattle.std.specs.Prelude.{◌≡◌, ◌+◌, ◌*◌, ◌<◌, List, length, IfOk};
 ghost use Rattle.cs_types.specs.Scenario.{IsPlayable};
-ghost use Rattle.cs_types.specs.Room.{RoomState, Interval};
-ghost use Rattle.cs_types.specs.View.{task_after, task_view, forced_of};
+ghost use Rattle.cs_types.specs.Room.{RoomState};
+ghost use Rattle.cs_types.specs.View.{task_view, forced_of};
 ghost use Rattle.core_tasks.specs.State.{room_with};
 ghost use Rattle.core_tasks.specs.Steps.{Makes};
 ghost use Rattle.ptrace_check.specs.Opened.{MayStart, HasStarted};
@@ -23,7 +23,6 @@ use std::alloc::Global;
 use std::marker::{Brand, Model};
 use std::snapshot::Snapshot;
 use std::sync::ledger::{Blank, Ledger};
-use task_table::Group;
 
 /// A machine over any queue of a sibling. Contracts see what it stands for: its scenario, the steps that
 /// were made, and how many more entries it can take.
@@ -72,13 +71,6 @@ fn view(task: &Task, forced: u64) -> TaskView
         forced,
         vtime: task.vtime,
     }
-}
-
-/// The living task with the least pid above this one.
-fn task_after<Q: SiblingQueue, G: Guard>(state: &State<Q, G>, pid: Pid) -> Option<Task>
-    ensures { (intervals : List Interval) → result ≡ task_after (room_with intervals state.now) pid }
-{
-    state.tasks.next_in(Group::All, pid).copied()
 }
 
 /// Makes the step of an event. The ledger of the blank is the one in which its comparisons are counted.
@@ -207,8 +199,8 @@ impl<Q: SiblingQueue, G: Guard> Room for CoreRoom<Q, G> {
     }
 
     fn task_after(&self, pid: Pid) -> Option<TaskView> {
-        let task = task_after(&self.state, pid)?;
-        Some(view(&task, self.state.tasks.forced(task.spec.pid)))
+        let next = self.state.tasks.next_charged(pid)?;
+        Some(view(next.0, next.1))
     }
 
     fn ended(&self, place: u64) -> Option<EndView> {

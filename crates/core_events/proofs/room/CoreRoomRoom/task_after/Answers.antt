@@ -1,5 +1,5 @@
-use Rattle.std.proofs.Common.{◌≡◌, ◌^◌, ◌<◌, ap, ◌∙◌, sym, subst, arith, Option, Some}
-use Rattle.std.specs.Prelude.{IfSome, find, nat_lt, []}
+use Rattle.std.proofs.Common.{◌≡◌, ◌^◌, ◌<◌, ap, ◌∙◌, sym, subst, arith, Option, Some, Bor, ℕ}
+use Rattle.std.specs.Prelude.{IfSome, find, nat_lt}
 use Rattle.std.specs.Option.{option_map}
 use Rattle.core_events.specs.Inside.{opening_of}
 use Rattle.cs_types.specs.View.{task_after, task_view, task_view_after}
@@ -15,14 +15,14 @@ use Rattle.task_table.proofs.Rising.{find_again}
 use Rattle.cs_types.specs.declared.task.Task.{Task}
 use Rattle.core_events.proofs.room.CoreRoomRoom.task_after.Goals as goal
 
-pub returns-in_err-task-clause-view : goal.returns-in_err-task-clause-view
-returns-in_err-task-clause-view g c =
+pub returns-in_err-next-clause-view : goal.returns-in_err-next-clause-view
+returns-in_err-next-clause-view g c =
     let a = c.self.inside in
     let pid = c.args.pid in
     let folds = folds_of a c.self.invariant in
     c.from_residual.ensures
-    ∙ ap (option_map (task_view (fold_of (opening_of a) a.entries.items))) (sym c.in_err-task.was)
-    ∙ task_shown (opening_of a) a.state a.entries.items pid c.task_after.result folds (c.task_after.ensures (fold_of (opening_of a) a.entries.items).intervals)
+    ∙ ap (λ (next : Option (Bor Task × ℕ)). option_map (task_view (fold_of (opening_of a) a.entries.items)) (option_map (λ (n : Bor Task × ℕ). n.0.now) next)) (sym c.in_err-next.was)
+    ∙ task_shown (opening_of a) a.state a.entries.items pid (option_map (λ (n : Bor Task × ℕ). n.0.now) c.next_charged.result) folds c.next_charged.ensures.next
     ∙ ap (λ h. option_map (task_view (fold_of (opening_of a) h)) (task_after (fold_of (opening_of a) h) pid)) c.self.invariant.history
     ∙ ap (λ (m : Machine). option_map (task_view (fold_of m.opening (history_of m.opening m.steps))) (task_after (fold_of m.opening (history_of m.opening m.steps)) pid)) c.self.view_is
 
@@ -32,14 +32,14 @@ shown g c =
     let a = c.self.inside in
     let last = fold_of (opening_of a) a.entries.items in
     let folds = folds_of a c.self.invariant in
-    let task = c.in_ok-task.task in
-    let found = c.task_after.ensures [] in
+    let task = c.in_ok-next.next.0.now in
+    let found = sym (ap (option_map (λ (n : Bor Task × ℕ). n.0.now)) c.in_ok-next.was) ∙ c.next_charged.ensures.next in
     let there : find (has_pid task.spec.pid) a.state.tasks.tasks ≡ Some task =
-    find_again (λ (other : Task). nat_lt c.args.pid other.spec.pid) 0 a.state.tasks.tasks task c.self.invariant.sound.agree.table.rising (sym found ∙ c.in_ok-task.was) in
-    let total = c.forced.ensures.total ∙ living_total (opening_of a) a.state a.entries.items task.spec.pid task folds c.self.invariant.sound there in
+    find_again (λ (other : Task). nat_lt c.args.pid other.spec.pid) 0 a.state.tasks.tasks task c.self.invariant.sound.agree.table.rising (sym found) in
+    let total = c.in_ok-next.ensures.total ∙ living_total (opening_of a) a.state a.entries.items task.spec.pid task folds c.self.invariant.sound there in
     ap Some (c.view.ensures last total)
-    ∙ ap (option_map (task_view last)) (sym c.in_ok-task.was)
-    ∙ task_shown (opening_of a) a.state a.entries.items c.args.pid c.task_after.result folds (c.task_after.ensures (fold_of (opening_of a) a.entries.items).intervals)
+    ∙ ap (λ (next : Option (Bor Task × ℕ)). option_map (task_view last) (option_map (λ (n : Bor Task × ℕ). n.0.now) next)) (sym c.in_ok-next.was)
+    ∙ task_shown (opening_of a) a.state a.entries.items c.args.pid (option_map (λ (n : Bor Task × ℕ). n.0.now) c.next_charged.result) folds c.next_charged.ensures.next
 
 pub returns-clause-view : goal.returns-clause-view
 returns-clause-view g c =
