@@ -138,6 +138,9 @@ impl<G: Guard> Seat<G> {
         ensures asked { self.new.guard ≡ record self.old.guard { asked = self.old.guard.asked + 1 } }
         ensures cap { self.new.cap ≡ self.old.cap }
     {
-        self.guard.as_mut().unwrap().allows(from, to)
+        let Some(guard) = &mut self.guard else {
+            unreachable!()
+        };
+        guard.allows(from, to)
     }
 }
