@@ -194,9 +194,15 @@ impl TaskTable {
         ensures edited { self.new ≡ record self.old { tasks = map (λ task. if has_pid pid task then edited edit task else task) self.old.tasks } }
         ensures sound { IsSound self.new }
     {
-        if let Some(key) = slot_of(&self.slots, &self.entries, &self.places, pid) {
-            edit.write(&mut self.slots[key]);
-        }
+        let noted = self.places.slot_of(pid);
+        let key = match self.slots.get(noted) {
+            Some(task) if task.spec.pid == pid => noted,
+            _ => match searched(&self.entries, pid) {
+                Some(key) => key,
+                None => return,
+            },
+        };
+        edit.write(&mut self.slots[key]);
     }
 
     /// The task with the pid, if there is one, remembers this occupation (`core_occupation`). Nothing else changes.
