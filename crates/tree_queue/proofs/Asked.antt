@@ -9,7 +9,6 @@ use Rattle.cs_types.specs.declared.task.Task.{Task}
 use Rattle.cs_types.specs.declared.queue.Queued.{Queued}
 use Rattle.cs_types.specs.Order.{goes_before, first_of, foremost}
 use Rattle.cs_types.specs.Queue.{Seat, seat_of, queued_of, entry_of}
-use Rattle.cs_types.specs.Room.{has_pid}
 use Rattle.cs_types.specs.Scenario.{IsPolicy}
 use Rattle.cs_types.proofs.Queues.{seat_total, seat_cmp-IsAntisymmetric, precedes, foremost-map, foremost_alike, goes_before-seats}
 use Rattle.task_table.specs.Table.{Rises}
