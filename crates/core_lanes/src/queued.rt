@@ -7,7 +7,7 @@ use cs_types::{Policy, Queued, Task};
 
 /// The rank of the task in its class, the smaller the higher: 0 for a stop task, its absolute deadline in ns, 99 less
 /// its priority, its virtual time in ns.
-pub fn rank_of(task: &Task) -> u128
+fn rank_of(task: &Task) -> u128
     ensures { result ≡ rank_by task.now.spec.policy task.now.deadline task.now.vtime }
 {
     match task.spec.policy {

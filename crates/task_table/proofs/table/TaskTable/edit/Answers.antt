@@ -34,9 +34,9 @@ same : (c : goal.After-index_mut-arg-1) → c.match-get.self-inside ≡ c.self.i
 same c = elim c.match-get.branch [
   | in-Some w ↦ w.self-inside-is
   | in_default+in-Some-searched w ↦ w.self-inside-is ∙ elim w.in_default.branch [
-      | in_default-via-in-Some+else-task-pid w' ↦ w'.self-inside-is
-      | in_default-via-in_default w' ↦ w'.self-inside-is
-    ]
+    | in_default-via-in-Some+else-task-pid w' ↦ w'.self-inside-is
+    | in_default-via-in_default w' ↦ w'.self-inside-is
+  ]
 ]
 
 kept : (c : goal.After-index_mut-arg-1) → IsKept c.match-get.self-inside.slots c.match-get.self-inside.entries.items
