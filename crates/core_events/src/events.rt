@@ -20,7 +20,7 @@ use core_clock::{online_home, rehome, wake_at_home};
 use core_lanes::{Core, SiblingQueue, charge, task_of};
 use core_pick::{pick_and_balance, schedule};
 use core_tasks::State;
-use cpu_hotplug::{Hotplug, offline, online, is_smt_off};
+use cpu_hotplug::{Hotplug, is_smt_off, offline, online};
 use cs_outside::Guard;
 use cs_types::{Ask, Cpu, Errno, Event, Pid, Policy, Reply, Steps, Task, TaskSpec};
 use fork_inherit::{ForkFault, has_threads};
