@@ -97,7 +97,7 @@ impl CookieRefs {
         if self.live == self.limit {
             return Err(CookieFull { limit: self.limit });
         }
-        take_out_ended(&mut self.cookies);
+        take_out_ended(&mut self.cookies, &mut self.places);
         let cookie = self.next;
         self.places.note(cookie, self.cookies.len());
         self.cookies.push_reserved(CookieCount { cookie, count: 1 });
@@ -184,14 +184,23 @@ impl CookieRefs {
     }
 }
 
-/// Takes out the cookies that ended, where there is no place for one more.
-fn take_out_ended(cookies: &mut Vec<CookieCount>)
+/// Takes out the cookies that ended, where there is no place for one more. The indices of the others are noted anew then.
+fn take_out_ended(cookies: &mut Vec<CookieCount>, places: &mut Places)
     ensures items { cookies.new.items ≡
         (if vec_len cookies.old == vec_capacity cookies.old then live_of cookies.old.items else cookies.old.items) }
     ensures capacity { vec_capacity cookies.new ≡ vec_capacity cookies.old }
 {
     if cookies.len() == cookies.capacity() {
         cookies.retain(|one| one.count != 0);
+        note_all(cookies, places);
+    }
+}
+
+/// Notes the index of each cookie.
+#[inline(never)]
+fn note_all(cookies: &[CookieCount], places: &mut Places) {
+    for (index, one) in cookies.iter().enumerate() {
+        places.note(one.cookie, index);
     }
 }
 
