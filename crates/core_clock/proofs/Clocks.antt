@@ -1,19 +1,19 @@
 -- Clocks: what a new slice and renewed leasts make of a room.
-use Rattle.std.proofs.Common.{◌≡◌, ℕ, zero, suc, ◌+◌, ◌<◌, Bool, true, false, cond, List, [], ◌∷◌, ◌++◌, map, take, drop, length, get_or, refl, sym, ap, ◌∙◌, Option, Some}
+use Rattle.std.proofs.Common.{◌≡◌, ℕ, zero, suc, ◌+◌, ◌<◌, Bool, false, cond, List, [], ◌∷◌, ◌++◌, map, take, drop, length, get_or, refl, sym, ap, ◌∙◌, Option, Some}
 use Rattle.std.specs.Prelude.{find, max, nat_lt}
 use Rattle.std.specs.Option.{option_map_or}
 use Rattle.cs_types.specs.Order.{foremost}
 use Rattle.std.specs.List.{enumerate_from}
-use Rattle.std.proofs.lemmas.List.{append-nil, map-id}
+use Rattle.std.proofs.lemmas.List.{append-nil}
 use Rattle.std.proofs.Math.Seq.{take-length, drop-length}
 use Rattle.cs_types.specs.declared.task.Task.{Task}
 use Rattle.cs_types.specs.Room.{RoomState, SiblingState, absent, has_pid, sibling_of, queued_on, with_task, with_sibling}
 use Rattle.cs_types.specs.Time.{rotates, has_used_slice, begin_slice, least_of, fair_times, with_leasts}
 use Rattle.core_lanes.specs.Queued.{smallest_vtime}
 use Rattle.task_table.specs.Table.{Rises}
-use Rattle.task_table.proofs.Tables.{changed_each}
 use Rattle.core_lanes.proofs.Lists.{placed_more, placed_at}
 use Rattle.core_clock.specs.Time.{with_ages}
+use Rattle.core_lanes.proofs.Replaced.{replaced-itself}
 
 -- ---- a new slice
 
@@ -21,10 +21,7 @@ use Rattle.core_clock.specs.Time.{with_ages}
 pub with_task-same : (room : RoomState) (task : Task) → Rises room.tasks → find (has_pid task.spec.pid) room.tasks ≡ Some task → with_task room task ≡ room
 with_task-same room task rises found =
     ap (λ (tasks : List Task). let now : RoomState = record room { tasks = tasks } in now)
-    (changed_each (λ t. t) room.tasks task rises found ∙ (λ i. map (λ (other : Task). same (has_pid task.spec.pid other) other i) room.tasks) ∙ map-id room.tasks) where
-      same : (b : Bool) (other : Task) → cond b other other ≡ other
-      same true other = refl
-      same false other = refl
+    (replaced-itself task room.tasks rises found)
 
 -- a new slice, by what is asked of the task
 abbrev pub sliced_by : RoomState → Task → Bool → Bool → RoomState

@@ -1,9 +1,9 @@
 -- Growth: the running tasks grow sibling by sibling.
-use Rattle.std.proofs.Common.{◌≡◌, ◌≢◌, ℕ, ℤ, zero, suc, ◌+◌, ◌*◌, ◌<◌, ◌≤◌, Bool, true, false, cond, not, List, [], ◌∷◌, map, take, length, refl, sym, subst, ap, ◌∙◌, arith, Option, Some, None, eqb-true, add-one}
+use Rattle.std.proofs.Common.{◌≡◌, ◌≢◌, ℕ, ℤ, zero, suc, ◌+◌, ◌*◌, ◌<◌, ◌≤◌, Bool, true, false, cond, not, List, [], ◌∷◌, map, take, length, refl, sym, subst, ap, ◌∙◌, arith, Option, Some, None, add-one, eqb-true}
 use Rattle.std.specs.Prelude.{◌&&◌, ◌||◌, ◌==◌, find, All, IfSome, IsSomeAnd}
 use Rattle.std.specs.List.{AllByRecursion, list_any}
 use Rattle.std.specs.Option.{option_and_then, option_map_or}
-use Rattle.std.proofs.lemmas.Bool.{cond-false, cond_both}
+use Rattle.std.proofs.lemmas.Bool.{cond-false, cond_both, ne_eqb}
 use Rattle.std.proofs.lemmas.Bool.Decides.{nat_tests}
 use Rattle.std.proofs.lemmas.List.{map-id}
 use Rattle.std.proofs.Math.Seq.{take-length}
@@ -12,7 +12,7 @@ use Rattle.std.proofs.lemmas.List.Folds.{list_any_more}
 use Rattle.std.proofs.lemmas.Simd.{map-map}
 use Rattle.cs_types.specs.declared.task.Task.{Task}
 use Rattle.cs_types.specs.declared.task.Policy.{Policy}
-use Rattle.cs_types.specs.declared.task.Policy.TheVariants.{Stop, Deadline, Fifo, Rr, Fair}
+use Rattle.cs_types.specs.declared.task.Policy.TheVariants.{Stop, Rr, Fair}
 use Rattle.cs_types.specs.Room.{RoomState, SiblingState, absent, has_pid, task_of, sibling_of, running_on, with_task}
 use Rattle.cs_types.specs.Selection.{is_run}
 use Rattle.cs_types.specs.Time.{grown_by, grown}
@@ -22,6 +22,7 @@ use Rattle.task_table.specs.Table.{Rises}
 use Rattle.task_table.proofs.Tables.{changed_each, none_found}
 use Rattle.core_clock.specs.Time.{with_grown}
 use Rattle.core_lanes.proofs.Timed.{KeepsTask}
+use Rattle.std.proofs.Math.Bool.{and_comm}
 
 -- ---- who grows
 
@@ -51,19 +52,14 @@ grow delta task = grown_by delta task.spec.policy task
 -- one that is neither RR nor fair does not
 pub grown_by-neither : (delta : ℕ) (policy : Policy) (task : Task) → ((priority : ℕ) → policy ≢ Rr priority) → ((nice : ℤ) → policy ≢ Fair nice) →
     grown_by delta policy task ≡ task
-grown_by-neither delta Stop task rr fair = refl
-grown_by-neither delta (Deadline relative) task rr fair = refl
-grown_by-neither delta (Fifo priority) task rr fair = refl
 grown_by-neither delta (Rr priority) task rr fair = absurd (rr priority refl)
 grown_by-neither delta (Fair nice) task rr fair = absurd (fair nice refl)
+grown_by-neither delta policy task rr fair = refl
 
 -- a task that grows keeps all but its times
 kept-grown_by : (delta : ℕ) (policy : Policy) (task : Task) → KeepsTask task (grown_by delta policy task)
 kept-grown_by delta Stop task = record { spec = refl; cookie = refl; home = refl; queued = refl; stamp = refl }
-kept-grown_by delta (Deadline relative) task = record { spec = refl; cookie = refl; home = refl; queued = refl; stamp = refl }
-kept-grown_by delta (Fifo priority) task = record { spec = refl; cookie = refl; home = refl; queued = refl; stamp = refl }
-kept-grown_by delta (Rr priority) task = record { spec = refl; cookie = refl; home = refl; queued = refl; stamp = refl }
-kept-grown_by delta (Fair nice) task = record { spec = refl; cookie = refl; home = refl; queued = refl; stamp = refl }
+kept-grown_by delta policy task = record { spec = refl; cookie = refl; home = refl; queued = refl; stamp = refl }
 
 pub kept-grown : (delta : ℕ) (task : Task) → KeepsTask task (grown_by delta task.spec.policy task)
 kept-grown delta task = kept-grown_by delta task.spec.policy task
@@ -74,11 +70,8 @@ pub record GrowsBy (delta : ℕ) (old new : Task) : Type 0 where
   pub vtime : new.vtime ≤ old.vtime + 69 * delta
 
 grows-grown_by : (delta : ℕ) (policy : Policy) (task : Task) → GrowsBy delta task (grown_by delta policy task)
-grows-grown_by delta Stop task = record { used = omega arith; vtime = omega arith }
-grows-grown_by delta (Deadline relative) task = record { used = omega arith; vtime = omega arith }
-grows-grown_by delta (Fifo priority) task = record { used = omega arith; vtime = omega arith }
-grows-grown_by delta (Rr priority) task = record { used = omega arith; vtime = omega arith }
 grows-grown_by delta (Fair nice) task = record { used = omega arith; vtime = omega (arith, growth-le delta nice) }
+grows-grown_by delta policy task = record { used = omega arith; vtime = omega arith }
 
 grows-grown_among : (siblings : List SiblingState) (delta : ℕ) (task : Task) → GrowsBy delta task (grown_among siblings delta task)
 grows-grown_among siblings delta task =
@@ -100,15 +93,9 @@ asked_there f a b = by_test (a == b) refl ∙ ap (λ c. f a && c) flipped where
   flipped : (a == b) ≡ (b == a)
   flipped = grind (arith, nat_tests)
 
-  swapped : (c d : Bool) → (c && d) ≡ (d && c)
-  swapped true true = refl
-  swapped true false = refl
-  swapped false true = refl
-  swapped false false = refl
-
   by_test : (c : Bool) → (a == b) ≡ c → (c && f b) ≡ (f a && c)
-  by_test true same = ap f (sym (eqb-true a b same)) ∙ swapped true (f a)
-  by_test false differs = swapped false (f a)
+  by_test true same = ap f (sym (eqb-true a b same)) ∙ and_comm true (f a)
+  by_test false differs = and_comm false (f a)
 
 -- no task grows where none passes
 grows_none : (test : Task → Bool) (f : Task → Task) (tasks : List Task) → AllByRecursion (λ task. test task ≡ false) tasks →
@@ -188,10 +175,7 @@ runs_alone room cpu pid own below runs = go cpu (omega arith) where
 
   other : (n : ℕ) → n < cpu → (run : Option ℕ) → IfSome run (IsHome n) → is_run run (Some pid) ≡ false
   other n under None home = refl
-  other n under (Some p) home = by_test (p == pid) refl where
-    by_test : (test : Bool) → (p == pid) ≡ test → (p == pid) ≡ false
-    by_test true same = absurd (omega (arith, under, one_home (task_of room pid) n cpu (subst (IsHome n) (eqb-true p pid same) home) here))
-    by_test false differs = differs
+  other n under (Some p) home = ne_eqb p pid (λ same. absurd (omega (arith, under, one_home (task_of room pid) n cpu (subst (IsHome n) same home) here)))
 
   go : (n : ℕ) → n ≤ cpu → is_run_by (take n room.siblings) pid ≡ false
   go zero le = refl

@@ -7,15 +7,16 @@ use Rattle.std.proofs.lemmas.Bool.{and_right, or_parts, or_from}
 use Rattle.std.proofs.lemmas.Bool.Decides.{nat_tests}
 use Rattle.cs_types.specs.declared.task.Task.{Task}
 use Rattle.cs_types.specs.declared.task.Policy.{Policy}
-use Rattle.cs_types.specs.declared.task.Policy.TheVariants.{Stop, Deadline, Fifo, Rr, Fair}
+use Rattle.cs_types.specs.declared.task.Policy.TheVariants.{Stop, Rr, Fair}
 use Rattle.cs_types.specs.Room.{RoomState, has_pid, queued_on}
 use Rattle.cs_types.specs.Order.{foremost, real_time_class, fair_class, class_of, is_fair, priority_of}
 use Rattle.cs_types.specs.Time.{others_on, is_rr, has_used_slice, is_peer}
-use Rattle.cs_types.proofs.Foremost.{better, foremost_reduce}
+use Rattle.cs_types.proofs.Foremost.{foremost_reduce, better}
 use Rattle.task_table.specs.Table.{Rises}
 use Rattle.task_table.proofs.Tables.{found_alone}
 use Rattle.core_lanes.specs.Queued.{has_peer, smallest_vtime}
 use Rattle.core_lanes.proofs.Lists.{any-map, any-filter, less_is_order}
+use Rattle.std.proofs.Math.Bool.{or-false}
 
 -- ---- the smallest
 
@@ -25,10 +26,7 @@ either m n most rest = grind (arith, nat_tests)
 
 -- and the smallest of some where one of them is
 some_below : (first : ℕ) (times : List ℕ) (most : ℕ) → ltb (fold (better ltb less_is_order) first times) most ≡ list_any (λ time. ltb time most) (first ∷ times)
-some_below first [] most = alone (ltb first most) where
-  alone : (b : Bool) → b ≡ (b || false)
-  alone true = refl
-  alone false = refl
+some_below first [] most = sym (or-false (ltb first most))
 some_below first (time ∷ times) most =
     some_below (cond (ltb time first) time first) times most ∙ either first time most (list_any (λ time. ltb time most) times)
 
@@ -87,11 +85,8 @@ rr_peers room cpu task used =
     && ((class_of other.spec.policy == class_is i) && (priority_of other.spec.policy == priority_of task.spec.policy))) (queued_on room cpu))
     ∙ sym (any-filter (is_peer task) (λ other. not (has_pid task.spec.pid other)) (queued_on room cpu)) where
       rr_class : (policy : Policy) (b : Bool) → (is_rr policy && b) ≡ true → class_of policy ≡ real_time_class
-      rr_class Stop b is = absurd cc
-      rr_class (Deadline relative) b is = absurd cc
-      rr_class (Fifo priority) b is = absurd cc
       rr_class (Rr priority) b is = refl
-      rr_class (Fair nice) b is = absurd cc
+      rr_class policy b is = absurd cc
 
       class_is : class_of task.spec.policy ≡ real_time_class
       class_is = rr_class task.spec.policy _ used
@@ -103,15 +98,9 @@ fair_peers room cpu task fair =
     ∙ sym (any-filter is_fair (λ other. not (has_pid task.spec.pid other)) (queued_on room cpu)) where
       with_fair : (own policy : Policy) → (class_of own == fair_class) ≡ true →
           ((class_of policy == class_of own) && (priority_of policy == priority_of own)) ≡ (class_of policy == fair_class)
-      with_fair Stop policy is = absurd cc
-      with_fair (Deadline relative) policy is = absurd cc
-      with_fair (Fifo priority) policy is = absurd cc
-      with_fair (Rr priority) policy is = absurd cc
       with_fair (Fair nice) Stop is = refl
-      with_fair (Fair nice) (Deadline relative) is = refl
-      with_fair (Fair nice) (Fifo priority) is = refl
-      with_fair (Fair nice) (Rr priority) is = refl
-      with_fair (Fair nice) (Fair other) is = refl
+      with_fair (Fair nice) policy is = refl
+      with_fair own policy is = absurd cc
 
       peer : (policy : Policy) → ((class_of policy == class_of task.spec.policy) && (priority_of policy == priority_of task.spec.policy)) ≡ (class_of policy == fair_class)
       peer policy = with_fair task.spec.policy policy fair

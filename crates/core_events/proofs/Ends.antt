@@ -62,15 +62,15 @@ all_made opening past now ahead = none_left opening past now 0 ahead (sym (none_
 -- ---- the end
 
 -- nobody is pending after it
-pub nobody_pending_at_end : (opening other : Opening) (past now : History) → other ≡ opening → IsDrained opening past now → pending (fold_of other now) ≡ []
-nobody_pending_at_end opening other past now same drained =
+pub nobody_pending_at_end : {opening other : Opening} {past now : History} → other ≡ opening → IsDrained opening past now → pending (fold_of other now) ≡ []
+nobody_pending_at_end {opening} {other} {past} {now} same drained =
     ap (λ (s : Opening). pending (fold_of s now)) same ∙ nobody_pending opening past now drained
 
 -- and all that run a task run tasks with one cookie
-pub one_cookie_at_end : (opening other : Opening) (past now : History) → other ≡ opening → IsDrained opening past now →
+pub one_cookie_at_end : {opening other : Opening} {past now : History} → other ≡ opening → IsDrained opening past now →
     IsPlayable opening.scenario → AreEvents opening past → IsLegal opening past → RunOneCookie (fold_of other now)
-one_cookie_at_end opening other past now same drained playable events legal =
+one_cookie_at_end {opening} {other} {past} {now} same drained playable events legal =
     one_cookie (fold_of other now)
     (subst (λ (s : Opening). IsSettled (fold_of s now)) (sym same)
     (settled-moment_of opening now playable (AreEvents-drained opening past now events drained) (IsLegal-drained opening past now legal drained)))
-    (nobody_pending_at_end opening other past now same drained)
+    (nobody_pending_at_end same drained)

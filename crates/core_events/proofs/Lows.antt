@@ -1,12 +1,11 @@
 -- Lows: low times stay low where a task goes to sleep or ends, and its sibling runs idle.
 use Rattle.std.proofs.Common.{ℕ, false, ◌^◌, ◌<◌, List, [], ◌∷◌, get_or, arith, zero, suc}
-use Rattle.std.specs.Prelude.{All, None}
+use Rattle.std.specs.Prelude.{All, None, not}
 use Rattle.std.proofs.lemmas.List.Elements.{All-set, All-head, All-tail, All-filter}
 use Rattle.cs_types.specs.declared.task.Task.{Task}
 use Rattle.cs_types.specs.Room.{RoomState, SiblingState, absent, has_pid, sibling_of}
 use Rattle.cs_types.specs.Queueing.{dequeue}
 use Rattle.cs_types.specs.Step.{run_idle, without}
-use Rattle.std.specs.Prelude.{not}
 use Rattle.core_lanes.specs.Lanes.{AreLow}
 use Rattle.core_lanes.proofs.Replaced.{All-replaced}
 

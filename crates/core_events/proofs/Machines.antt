@@ -8,7 +8,7 @@ use Rattle.std.proofs.lemmas.List.{map_push}
 use Rattle.std.proofs.lemmas.List.Elements.{All-head, All-tail, All-weaker}
 use Rattle.std.proofs.lemmas.Bool.{cond-true, cond-false, eq-eqb, ne_eqb}
 use Rattle.cs_types.specs.declared.event.Event.{Event}
-use Rattle.cs_types.specs.declared.event.Event.TheVariants.{Turn, Resched, Block, Exit, Tick, Wake, Advance, Fork, Prctl, SetSched, Offline, Online, Load, Unload}
+use Rattle.cs_types.specs.declared.event.Event.TheVariants.{Turn, Resched, Block, Exit}
 use Rattle.cs_types.specs.declared.event.Step.{Step}
 use Rattle.cs_types.specs.declared.reply.Pick.{Pick}
 use Rattle.cs_types.specs.declared.reply.Reply.{Reply}
@@ -52,11 +52,6 @@ history_more opening entries entry so_far reply =
 
 -- ---- each sibling's own number
 
--- two functions that agree give one list
-map-alike : {X Y : Type 0} (f g : X → Y) → ((x : X) → f x ≡ g x) → (xs : List X) → map f xs ≡ map g xs
-map-alike f g same [] = refl
-map-alike {X} {Y} f g same (x ∷ xs) = λ i. same x i ∷ map-alike f g same xs i
-
 -- a function that is another but at one place, and the place is before the range
 range-past : (f g : ℕ → ℕ) (place value : ℕ) → ((cpu : ℕ) → f cpu ≡ cond (eqb place cpu) value (g cpu)) →
     (a n : ℕ) → place < a → map f (range_with_len a n) ≡ map g (range_with_len a n)
@@ -85,16 +80,16 @@ took : (f g : ℕ → ℕ) (n value cpu : ℕ) (test : Bool) → cpu < n → ((o
 took f g n value cpu true below is =
     range-set f g cpu value (λ other. is other ∙ ap (λ b. cond b value (g other)) (and-true (eqb cpu other))) 0 n cpu (omega arith) below
 took f g n value cpu false below is =
-    map-alike f g (λ other. is other ∙ cond-false _ value (g other) (and-false (eqb cpu other))) (range_with_len 0 n)
+    λ i. map (λ other. (is other ∙ cond-false _ value (g other) (and-false (eqb cpu other))) i) (range_with_len 0 n)
 
 -- Where a pick of a selection was taken, its sibling's number is another, and all else stays.
 own_taken : (f g : ℕ → ℕ) (n value : ℕ) (scheduler : Option ℕ) (pick : Option Pick) → IfSome scheduler (λ cpu. cpu < n) →
     ((cpu : ℕ) → f cpu ≡ cond (option_map_or (λ other. eqb other cpu) scheduler false && option_map_or is_took pick false) value (g cpu)) →
     map f (range_with_len 0 n)
     ≡ option_map_or (λ cpu. option_map_or (λ (chosen : Pick). cond (is_took chosen) (set (map g (range_with_len 0 n)) cpu value) (map g (range_with_len 0 n))) pick (map g (range_with_len 0 n))) scheduler (map g (range_with_len 0 n))
-own_taken f g n value None pick below is = map-alike f g is (range_with_len 0 n)
+own_taken f g n value None pick below is = λ i. map (λ x. is x i) (range_with_len 0 n)
 own_taken f g n value (Some cpu) None below is =
-    map-alike f g (λ x. is x ∙ cond-false _ value (g x) (and-false (eqb cpu x))) (range_with_len 0 n)
+    λ i. map (λ x. (is x ∙ cond-false _ value (g x) (and-false (eqb cpu x))) i) (range_with_len 0 n)
 own_taken f g n value (Some cpu) (Some pick) below is =
     took f g n value cpu (is_took pick) below is
 
@@ -104,16 +99,7 @@ scheduler_below n (Turn cpu) limits = limits
 scheduler_below n (Resched cpu) limits = limits
 scheduler_below n (Block cpu) limits = limits
 scheduler_below n (Exit cpu) limits = limits
-scheduler_below n (Tick cpu) limits = tt
-scheduler_below n (Wake pid) limits = tt
-scheduler_below n (Advance delta) limits = tt
-scheduler_below n (Fork caller thread) limits = tt
-scheduler_below n (Prctl caller ask) limits = tt
-scheduler_below n (SetSched pid policy) limits = tt
-scheduler_below n (Offline cpu) limits = tt
-scheduler_below n (Online cpu) limits = tt
-scheduler_below n (Load index) limits = tt
-scheduler_below n (Unload index) limits = tt
+scheduler_below n event limits = tt
 
 own_more : (n : ℕ) (note : LedgerEntry) (ledger : Ledger) → IsEvent n note.entry.event →
     map (λ cpu. own_number cpu (note ∷ ledger)) (range_with_len 0 n)

@@ -1,17 +1,12 @@
 -- Onlines: what an event of a sibling makes where that is offline, and where it is online.
-use Rattle.std.proofs.Common.{◌≡◌, ℕ, ◌+◌, Bor, List, true, false, ap, sym, ◌∙◌, subst, arith, Option, None, Some, unwrap_or}
+use Rattle.std.proofs.Common.{◌≡◌, ℕ, Bor, List, true, false, ap, sym, ◌∙◌, subst, Option, None, Some, unwrap_or}
 use Rattle.std.specs.Prelude.{IfSome, option_copied}
 use Rattle.std.proofs.lemmas.Bool.{cond-true, cond-false}
 use Rattle.cs_types.specs.declared.task.Task.{Task}
 use Rattle.cs_types.specs.declared.reply.Reply.TheVariants.{Offline}
 use Rattle.cs_types.specs.Room.{RoomState, is_online, running_on}
 use Rattle.cs_types.specs.Step.{Stepped, unless_offline}
-use Rattle.core_lanes.specs.Numbers.{Numbers}
 use Rattle.core_lanes.specs.Queued.{IsOf}
-
--- nothing is touched
-pub untouched : (numbers : Numbers) → numbers ≡ record numbers { task = numbers.task + 0 }
-untouched numbers = ap (λ n. let other : Numbers = record numbers { task = n } in other) (omega arith)
 
 -- the step of a sibling that is online is what it makes
 pub when_online : (room : RoomState) (cpu : ℕ) (stepped : Stepped) → is_online room cpu ≡ true → stepped ≡ unless_offline room cpu stepped

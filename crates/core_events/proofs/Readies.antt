@@ -1,9 +1,9 @@
 -- Readies: what the events of a state have in common.
-use Rattle.std.proofs.Common.{◌≡◌, ℕ, ◌+◌, ◌^◌, ◌<◌, Bool, true, false, cond, [], map, refl, subst, sym, ap, ◌∙◌, arith, length, Option, Some, None}
+use Rattle.std.proofs.Common.{◌≡◌, ℕ, ◌+◌, ◌^◌, ◌<◌, Bool, false, cond, [], map, refl, subst, sym, ap, ◌∙◌, arith, length, Some, None}
 use Rattle.std.specs.Prelude.{IfSome, nat_lt, not, ◌==◌, ◌&&◌}
-use Rattle.std.proofs.lemmas.Bool.{eqb-true, lt-ltb}
+use Rattle.std.proofs.lemmas.Bool.{lt-ltb, ne_eqb}
 use Rattle.std.proofs.lemmas.List.Elements.{All-weaker}
-use Rattle.cs_types.specs.declared.event.Event.TheVariants.{Turn, Resched, Offline, Online}
+use Rattle.cs_types.specs.declared.event.Event.TheVariants.{Turn, Resched, Online, Offline}
 use Rattle.cs_types.specs.declared.reply.Pick.{Pick}
 use Rattle.cs_types.specs.declared.reply.Reply.{Reply}
 use Rattle.cs_types.specs.declared.reply.Reply.TheVariants.{Picked}
@@ -12,7 +12,7 @@ use Rattle.cs_types.specs.Room.{RoomState, SiblingState, Waiting, sibling_of, qu
 use Rattle.cs_types.specs.Selection.{schedule, balance, pick_anew, adopt_or_pick_anew}
 use Rattle.cs_types.specs.Accounting.{charge}
 use Rattle.cs_types.proofs.Times.{vtimes_bounded, siblings_bounded}
-use Rattle.cs_types.proofs.Accounts.{account_of, charged_up_to, charge-again}
+use Rattle.cs_types.proofs.Accounts.{charge-again, account_of, charged_up_to}
 use Rattle.core_lanes.specs.declared.queue.SiblingQueue.{Ghosts}
 use Rattle.core_lanes.specs.Lanes.{HasLowTimes, lane_state}
 use Rattle.core_lanes.specs.Numbers.{Numbers, touched, is_fresh_by}
@@ -23,11 +23,13 @@ use Rattle.core_tasks.specs.Steps.{numbers_after}
 use Rattle.core_events.specs.Ready.{IsOnTime, IsReady}
 use Rattle.cookie_steal.specs.Tries.{reply_of, steal_touches}
 use Rattle.cookie_steal.specs.declared.steal.Try.{Try}
-use Rattle.cookie_steal.specs.declared.steal.Try.TheVariants.{Stole, Missed, NoBalance}
+use Rattle.cookie_steal.specs.declared.steal.Try.TheVariants.{Stole}
 use Rattle.cpu_hotplug.specs.Hotplugs.{leave_touches, reply_of as hotplug_reply}
 use Rattle.cpu_hotplug.specs.declared.hotplug.Hotplug.{Hotplug}
-use Rattle.cpu_hotplug.specs.declared.hotplug.Hotplug.TheVariants.{Done, Busy, Already}
-use Rattle.core_events.proofs.Onlines.{untouched}
+use Rattle.cpu_hotplug.specs.declared.hotplug.Hotplug.TheVariants.{Done}
+use Rattle.std.proofs.Math.Bool.{and-true}
+use Rattle.core_tasks.proofs.States.{untouched}
+use Rattle.core_pick.proofs.Cases.{is_not_adopted}
 
 -- a state that is on time has low times
 pub low_times : {Q G : Type 0} {g : Ghosts Q} (state : State Q G g) → IsOnTime state → HasLowTimes (both state)
@@ -65,15 +67,8 @@ may_touch_after state ready paid now same is = omega (arith, ready.spares.touche
 -- The numbers let a sibling adopt exactly where the selection is fresh, while its own number is below the pick number.
 same_test : (task pick own : ℕ) → own < pick → ((pick == task) && not (own == pick)) ≡ (nat_lt 0 pick && (pick == task))
 same_test task pick own below =
-    ap (λ b. (pick == task) && not b) (differs (own == pick) refl) ∙ with_true (pick == task)
-    ∙ ap (λ b. b && (pick == task)) (sym (lt-ltb 0 pick (omega (arith, below)))) where
-      differs : (equal : Bool) → (own == pick) ≡ equal → (own == pick) ≡ false
-      differs true is = absurd (omega (arith, below, eqb-true own pick is))
-      differs false is = is
-
-      with_true : (b : Bool) → (b && true) ≡ b
-      with_true true = refl
-      with_true false = refl
+    ap (λ b. (pick == task) && not b) (ne_eqb own pick (λ same. omega (arith, below, same))) ∙ and-true (pick == task)
+    ∙ ap (λ b. b && (pick == task)) (sym (lt-ltb 0 pick (omega (arith, below))))
 
 -- A schedule is the same by the three numbers as by what was touched.
 pub same_schedule : (numbers : Numbers) (room : RoomState) (cpu : ℕ) → IfSome (sibling_of room cpu).waiting (λ run. own_of cpu numbers < numbers.pick) →
@@ -94,18 +89,13 @@ turn_as_resched room cpu answer pick numbers is =
 -- and one that tries to steal touches the queues twice where it stole
 pub turn_touches : (room : RoomState) (cpu : ℕ) (numbers : Numbers) (made : Try) → touched (steal_touches made) numbers ≡ numbers_after room (Turn cpu) (reply_of made) numbers
 turn_touches room cpu numbers (Stole pid from) = refl
-turn_touches room cpu numbers (Missed from) = refl
-turn_touches room cpu numbers NoBalance = refl
+turn_touches room cpu numbers made = refl
 
 -- ---- a pick that adopts nothing
 
 pub schedule_not_adopted : (room : RoomState) (fresh : Bool) (cpu : ℕ) → None ≡ cond fresh (sibling_of room cpu).waiting None →
     schedule room fresh cpu ≡ balance cpu (pick_anew (charge room) cpu)
-schedule_not_adopted room fresh cpu none = ap (balance cpu) (not_adopted fresh (sibling_of room cpu).waiting none) where
-  not_adopted : (b : Bool) (waiting : Option (Option ℕ)) → None ≡ cond b waiting None → adopt_or_pick_anew room b cpu waiting ≡ pick_anew (charge room) cpu
-  not_adopted b None e = refl
-  not_adopted false (Some run) e = refl
-  not_adopted true (Some run) e = absurd cc
+schedule_not_adopted room fresh cpu none = ap (balance cpu) (is_not_adopted room fresh cpu none)
 
 -- the pick of a sibling whose open interval was charged, and whose task is gone since
 pub picked_charged : (charged gone : RoomState) (cpu : ℕ) → charged_up_to (account_of gone) ≡ gone.clock → charged ≡ gone →
@@ -120,11 +110,9 @@ picked_charged charged gone cpu now is =
 pub offline_touches : (room : RoomState) (cpu : ℕ) (numbers : Numbers) (made : Hotplug) →
     touched (leave_touches made (length (queued_on room cpu))) numbers ≡ numbers_after room (Offline cpu) (hotplug_reply made) numbers
 offline_touches room cpu numbers Done = refl
-offline_touches room cpu numbers Busy = refl
-offline_touches room cpu numbers Already = refl
+offline_touches room cpu numbers made = refl
 
 -- and where it comes back they are not
 pub online_touches : (room : RoomState) (cpu : ℕ) (numbers : Numbers) (made : Hotplug) → numbers ≡ numbers_after room (Online cpu) (hotplug_reply made) numbers
 online_touches room cpu numbers Done = untouched numbers
-online_touches room cpu numbers Busy = untouched numbers
-online_touches room cpu numbers Already = untouched numbers
+online_touches room cpu numbers made = untouched numbers

@@ -28,5 +28,4 @@ took-resched room cpu pick numbers = by_kind pick.kind pick.run pick.core pick.f
       let taken : Pick = record { kind = kind; run = run; core = core; forced = forced } in
       took cpu taken numbers ≡ numbers_after room (Resched cpu) (Picked taken) numbers
   by_kind Selected run core forced = refl
-  by_kind Adopted run core forced = refl
-  by_kind Plain run core forced = refl
+  by_kind kind run core forced = refl

@@ -1,5 +1,5 @@
 -- Alike: a task in the place of one that the queues have alike changes no queue.
-use Rattle.std.proofs.Common.{◌≡◌, inl, inr, ℕ, ◌+◌, ◌-◌, Bool, true, false, cond, List, [], ◌∷◌, map, arith, refl, sym, ap, ◌∙◌, Some}
+use Rattle.std.proofs.Common.{◌≡◌, inl, inr, ℕ, ◌-◌, true, List, map, arith, refl, sym, ap, ◌∙◌, Some, Contains}
 use Rattle.std.specs.Prelude.{find, ◌&&◌, ◌==◌}
 use Rattle.std.proofs.lemmas.Bool.{and_parts, cond-true, cond-false, cases_Bool, eqb-true}
 use Rattle.cs_types.specs.declared.task.Task.{Task}
@@ -10,38 +10,21 @@ use Rattle.cs_types.specs.Order.{class_of, priority_of}
 use Rattle.cs_types.specs.Queue.{rank_by, queued_of}
 use Rattle.cs_types.specs.Room.{has_pid}
 use Rattle.cs_types.proofs.Spots.{replaced_by}
-use Rattle.task_table.specs.Table.{Rises, RisesFrom}
-use Rattle.core_lanes.specs.Queued.{queued_among, queued_at, is_peer_of, is_alike}
-use Rattle.core_lanes.proofs.Queues.{is_on}
-use Rattle.core_lanes.proofs.Replaced.{past}
+use Rattle.task_table.specs.Table.{Rises}
+use Rattle.core_lanes.specs.Queued.{queued_at, is_peer_of, is_alike, IsOf}
+use Rattle.core_lanes.proofs.Queues.{is_on, is_of, queued_at-map}
+use Rattle.std.proofs.lemmas.List.Elements.{All-weaker, All-contains_itself}
 
 -- policies of one class and one priority have the same ranks
 same_rank : (p q : Policy) (deadline vtime : ℕ) → class_of q ≡ class_of p → priority_of q ≡ priority_of p → rank_by p deadline vtime ≡ rank_by q deadline vtime
 same_rank Stop Stop deadline vtime class priority = refl
-same_rank Stop (Deadline b) deadline vtime class priority = absurd (omega (arith, class))
-same_rank Stop (Fifo b) deadline vtime class priority = absurd (omega (arith, class))
-same_rank Stop (Rr b) deadline vtime class priority = absurd (omega (arith, class))
-same_rank Stop (Fair b) deadline vtime class priority = absurd (omega (arith, class))
-same_rank (Deadline a) Stop deadline vtime class priority = absurd (omega (arith, class))
 same_rank (Deadline a) (Deadline b) deadline vtime class priority = refl
-same_rank (Deadline a) (Fifo b) deadline vtime class priority = absurd (omega (arith, class))
-same_rank (Deadline a) (Rr b) deadline vtime class priority = absurd (omega (arith, class))
-same_rank (Deadline a) (Fair b) deadline vtime class priority = absurd (omega (arith, class))
-same_rank (Fifo a) Stop deadline vtime class priority = absurd (omega (arith, class))
-same_rank (Fifo a) (Deadline b) deadline vtime class priority = absurd (omega (arith, class))
 same_rank (Fifo a) (Fifo b) deadline vtime class priority = ap (λ n. 99 - n) (sym priority)
 same_rank (Fifo a) (Rr b) deadline vtime class priority = ap (λ n. 99 - n) (sym priority)
-same_rank (Fifo a) (Fair b) deadline vtime class priority = absurd (omega (arith, class))
-same_rank (Rr a) Stop deadline vtime class priority = absurd (omega (arith, class))
-same_rank (Rr a) (Deadline b) deadline vtime class priority = absurd (omega (arith, class))
 same_rank (Rr a) (Fifo b) deadline vtime class priority = ap (λ n. 99 - n) (sym priority)
 same_rank (Rr a) (Rr b) deadline vtime class priority = ap (λ n. 99 - n) (sym priority)
-same_rank (Rr a) (Fair b) deadline vtime class priority = absurd (omega (arith, class))
-same_rank (Fair a) Stop deadline vtime class priority = absurd (omega (arith, class))
-same_rank (Fair a) (Deadline b) deadline vtime class priority = absurd (omega (arith, class))
-same_rank (Fair a) (Fifo b) deadline vtime class priority = absurd (omega (arith, class))
-same_rank (Fair a) (Rr b) deadline vtime class priority = absurd (omega (arith, class))
 same_rank (Fair a) (Fair b) deadline vtime class priority = refl
+same_rank p q deadline vtime class priority = absurd (omega (arith, class))
 
 -- what tasks that are alike have in common
 record AreAlike (old task : Task) : Type 0 where
@@ -74,42 +57,26 @@ are_alike old task alike =
           ∙ (λ i. rank_by task.spec.policy (eqb-true old.deadline task.deadline e.1 i) (eqb-true old.vtime task.vtime f.1 i));
     }
 
--- a task before others, as a queue has them
-pub held_head : (task : Task) (on : Bool) (tasks : List Task) → map queued_of (cond on (task ∷ tasks) tasks) ≡ cond on (queued_of task ∷ map queued_of tasks) (map queued_of tasks)
-held_head task true tasks = refl
-held_head task false tasks = refl
-
-module _ (task old : Task) (cpu : ℕ) (alike : is_alike old task ≡ true) where
-  held_from : (low : ℕ) (tasks : List Task) → RisesFrom low tasks → find (has_pid task.spec.pid) tasks ≡ Some old →
-      queued_at (map (replaced_by task) tasks) cpu ≡ queued_at tasks cpu
-  held_from low [] rises there = refl
-  held_from low (first ∷ tasks) rises there =
-      let pid = task.spec.pid in
-      elim (cases_Bool (has_pid pid first)) [
-        | inl here ↦
-            let same : Some first ≡ Some old = sym (cond-true _ (Some first) (find (has_pid pid) tasks) here) ∙ there in
-            let is : first ≡ old = cc in
-            let at : first.spec.pid ≡ pid = eqb-true first.spec.pid pid here in
-            let are = are_alike old task alike in
-            let others = queued_among tasks cpu in
-            let on : is_on cpu task ≡ is_on cpu old = λ i. sym are.queued i && (sym are.home i == cpu) in
-            let pids : pid ≡ old.spec.pid = sym at ∙ ap (λ (t : Task). t.spec.pid) is in
-            let queued : queued_of task ≡ queued_of old =
-            λ i. let one : Queued = record { pid = pids i; class = sym are.class i; rank = sym are.rank i; stamp = sym are.stamp i; cookie = sym are.cookie i } in one in
-            (λ i. queued_at (cond-true (has_pid pid first) task first here i ∷ past task (first.spec.pid + 1) tasks (omega (arith, at)) rises.1 i) cpu)
-            ∙ held_head task (is_on cpu task) others
-            ∙ (λ i. cond (on i) (queued i ∷ map queued_of others) (map queued_of others))
-            ∙ sym (held_head old (is_on cpu old) others)
-            ∙ ap (λ (t : Task). queued_at (t ∷ tasks) cpu) (sym is)
-        | inr other ↦
-            let rest = held_from (first.spec.pid + 1) tasks rises.1 (sym (cond-false _ (Some first) (find (has_pid pid) tasks) other) ∙ there) in
-            ap (λ (t : Task). queued_at (t ∷ map (replaced_by task) tasks) cpu) (cond-false (has_pid pid first) task first other)
-            ∙ held_head first (is_on cpu first) (queued_among (map (replaced_by task) tasks) cpu)
-            ∙ ap (λ (held : List Queued). cond (is_on cpu first) (queued_of first ∷ held) held) rest
-            ∙ sym (held_head first (is_on cpu first) (queued_among tasks cpu))
-      ]
-
 -- each queue holds the same once a task has taken the place of one that is alike
 pub queued_at-alike : (task old : Task) (tasks : List Task) (cpu : ℕ) → Rises tasks → find (has_pid task.spec.pid) tasks ≡ Some old →
     is_alike old task ≡ true → queued_at (map (replaced_by task) tasks) cpu ≡ queued_at tasks cpu
-queued_at-alike task old tasks cpu rises there alike = held_from task old cpu alike 0 tasks rises there
+queued_at-alike task old tasks cpu rises there alike =
+    queued_at-map (replaced_by task) tasks cpu (All-weaker (Contains tasks) Same (λ one within. same one (is_of tasks one rises within)) tasks (All-contains_itself tasks)) where
+      Same : Task → Type 0
+      Same one = (is_on cpu (replaced_by task one) ≡ is_on cpu one) × (queued_of (replaced_by task one) ≡ queued_of one)
+
+      same : (one : Task) → IsOf tasks one → (is_on cpu (replaced_by task one) ≡ is_on cpu one) × (queued_of (replaced_by task one) ≡ queued_of one)
+      same one found =
+          elim (cases_Bool (has_pid task.spec.pid one)) [
+            | inl here ↦
+                let at : one.spec.pid ≡ task.spec.pid = eqb-true one.spec.pid task.spec.pid here in
+                let both : Some old ≡ Some one = sym there ∙ ap (λ n. find (has_pid n) tasks) (sym at) ∙ found in
+                let is : old ≡ one = cc in
+                let are = are_alike old task alike in
+                let now : replaced_by task one ≡ task = cond-true (has_pid task.spec.pid one) task one here in
+                let pids : task.spec.pid ≡ old.spec.pid = sym at ∙ ap (λ (t : Task). t.spec.pid) (sym is) in
+                let queued : queued_of task ≡ queued_of old =
+                λ i. let one : Queued = record { pid = pids i; class = sym are.class i; rank = sym are.rank i; stamp = sym are.stamp i; cookie = sym are.cookie i } in one in
+                (ap (is_on cpu) now ∙ (λ i. sym are.queued i && (sym are.home i == cpu)) ∙ ap (is_on cpu) is, ap queued_of now ∙ queued ∙ ap queued_of is)
+            | inr other ↦ let now = cond-false (has_pid task.spec.pid one) task one other in (ap (is_on cpu) now, ap queued_of now)
+          ]

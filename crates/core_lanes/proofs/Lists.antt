@@ -9,10 +9,11 @@ use Rattle.std.specs.Global.{Vec}
 use Rattle.std.specs.Vec.{with_items}
 use Rattle.std.proofs.lemmas.List.{length-map, with_items_is}
 use Rattle.std.proofs.lemmas.List.Sums.{length-filter}
-use Rattle.std.proofs.lemmas.List.Elements.{All-head, All-tail}
+use Rattle.std.proofs.lemmas.List.Elements.{All-head, All-tail, filter_agree}
 use Rattle.cs_types.specs.declared.task.Task.{Task}
 use Rattle.cs_types.specs.Order.{first_of}
 use Rattle.cs_types.proofs.First.{first_of_reduce}
+use Rattle.std.proofs.lemmas.List.Recursion.{or_push}
 
 -- ---- lists that stand for others
 
@@ -34,11 +35,6 @@ filter-filter {X} p q (x ∷ xs) =
 
 -- ---- tests, counts and searches over a filter, and over a list that stands for another
 
-filter-same : {X : Type 0} (p q : X → Bool) (xs : List X) → ((x : X) → p x ≡ q x) → filter p xs ≡ filter q xs
-filter-same p q [] h = refl
-filter-same {X} p q (x ∷ xs) h =
-    ap (λ b. cond b (x ∷ filter p xs) (filter p xs)) (h x) ∙ ap (λ (ys : List X). cond (q x) (x ∷ ys) ys) (filter-same p q xs h)
-
 -- a count of those that pass over the list of places is one over what stands at them
 pub count_at : {X : Type 0} (f : ℕ → X) (q : X → Bool) (is_in p : ℕ → Bool) (places : List ℕ) → ((i : ℕ) → q (f i) ≡ (is_in i && p i)) →
     count_by q (map f places) ≡ count_by p (filter is_in places)
@@ -46,7 +42,7 @@ count_at f q is_in p places same =
     sym (length-filter q (map f places))
     ∙ ap length (filter-map f q places)
     ∙ length-map (filter (λ i. q (f i)) places) f
-    ∙ ap length (filter-same (λ i. q (f i)) (λ i. is_in i && p i) places same ∙ sym (filter-filter is_in p places))
+    ∙ ap length (filter_agree (λ i. q (f i)) (λ i. is_in i && p i) same places ∙ sym (filter-filter is_in p places))
     ∙ length-filter p (filter is_in places)
 
 -- and so for whether one passes
@@ -76,14 +72,7 @@ any-filter p q (x ∷ xs) =
 
 -- or in a list with one element more
 pub any-push : {X : Type 0} (test : X → Bool) (xs : List X) (x : X) → list_any test (xs ++ x ∷ []) ≡ (list_any test xs || test x)
-any-push test [] x = or_false (test x) where
-  or_false : (b : Bool) → (b || false) ≡ b
-  or_false true = refl
-  or_false false = refl
-any-push test (y ∷ ys) x = ap (λ b. test y || b) (any-push test ys x) ∙ or_or (test y) (list_any test ys) (test x) where
-  or_or : (a b c : Bool) → (a || (b || c)) ≡ ((a || b) || c)
-  or_or true b c = refl
-  or_or false b c = refl
+any-push test = or_push (list_any test) test refl (λ _ _. refl)
 
 -- what is found in a list has what each element of it has
 pub All-find : {X : Type 0} (P : X → Type 0) (p : X → Bool) (xs : List X) → All P xs → IfSome (find p xs) P

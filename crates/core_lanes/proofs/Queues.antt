@@ -1,5 +1,5 @@
 -- Queues: what the queues hold once a task has left one, and once it has entered one.
-use Rattle.std.proofs.Common.{◌≡◌, ◌≢◌, ◌⊎◌, inl, inr, ℕ, zero, suc, ◌+◌, ◌<◌, ◌≤◌, Bool, true, false, cond, not, List, [], ◌∷◌, length, map, set, get_or, refl, subst, sym, ap, ◌∙◌, Option, None, Some, arith}
+use Rattle.std.proofs.Common.{◌≡◌, ◌≢◌, ◌⊎◌, inl, inr, ℕ, zero, suc, ◌+◌, ◌<◌, ◌≤◌, Bool, true, false, cond, not, List, [], ◌∷◌, length, map, set, get_or, refl, subst, sym, ap, ◌∙◌, Option, None, Some, arith, filter, All}
 use Rattle.std.specs.Prelude.{find, ◌&&◌, ◌==◌, slice_get, Contains, IfSome}
 use Rattle.std.specs.Option.{option_map}
 use Rattle.std.proofs.lemmas.Bool.{cond-true, cond-false, cases_Bool, eqb-true, ne_eqb, eq-eqb}
@@ -10,6 +10,11 @@ use Rattle.cs_types.specs.Room.{has_pid}
 use Rattle.cs_types.proofs.Spots.{replaced_by}
 use Rattle.task_table.specs.Table.{Rises, RisesFrom}
 use Rattle.core_lanes.specs.Queued.{queued_among, queued_at, others, IsOf}
+use Rattle.std.proofs.lemmas.List.Elements.{filter_agree, All-head, All-tail, All-weaker, All-from_recursion, All-contains_itself}
+use Rattle.std.proofs.Math.Bool.{and_comm, and-true}
+use Rattle.task_table.proofs.Rising.{above_all}
+use Rattle.task_table.proofs.Tables.{filter_alike}
+use Rattle.core_lanes.proofs.Lists.{filter-map, filter-filter}
 
 -- whether a task is queued on a sibling
 abbrev pub is_on : ℕ → Task → Bool
@@ -45,83 +50,89 @@ found_queued tasks queued (Some task) there is = let same : queued ≡ queued_of
 
 -- ---- the others
 
-module _ (pid : ℕ) where
-  -- a task with the pid is none of the others, whether it is queued or not
-  drop_head : (task : Task) (tasks : List Task) (queued : Bool) → (task.spec.pid == pid) ≡ true →
-      others pid (map queued_of (cond queued (task ∷ tasks) tasks)) ≡ others pid (map queued_of tasks)
-  drop_head task tasks true is = cond-false _ (queued_of task ∷ others pid (map queued_of tasks)) (others pid (map queued_of tasks)) (ap not is)
-  drop_head task tasks false is = refl
+-- the tasks but for the one with this pid
+abbrev pub but : ℕ → List Task → List Task
+but pid tasks = filter (λ other. not (has_pid pid other)) tasks
 
-  -- one with another pid is, where it is queued
-  keep_head : (task : Task) (xs ys : List Task) (queued : Bool) → others pid (map queued_of xs) ≡ others pid (map queued_of ys) →
-      others pid (map queued_of (cond queued (task ∷ xs) xs)) ≡ others pid (map queued_of (cond queued (task ∷ ys) ys))
-  keep_head task xs ys true same = ap (λ (rest : List Queued). cond (not (task.spec.pid == pid)) (queued_of task ∷ rest) rest) same
-  keep_head task xs ys false same = same
+-- a task has its own pid
+pub own_pid : (task : Task) → has_pid task.spec.pid task ≡ true
+own_pid task = eq-eqb task.spec.pid task.spec.pid refl
 
-  -- where no task has the pid, all are others
-  pub others_none : (cpu low : ℕ) (tasks : List Task) → pid < low → RisesFrom low tasks → others pid (queued_at tasks cpu) ≡ queued_at tasks cpu
-  others_none cpu low [] below rises = refl
-  others_none cpu low (task ∷ tasks) below rises =
-      let rest = others_none cpu (task.spec.pid + 1) tasks (omega (arith, below, rises.0)) rises.1 in
-      let apart : (task.spec.pid == pid) ≡ false = ne_eqb task.spec.pid pid (λ same. omega (arith, same, below, rises.0)) in
-      elim (is_on cpu task) as (λ b. others pid (map queued_of (cond b (task ∷ queued_among tasks cpu) (queued_among tasks cpu)))
-      ≡ map queued_of (cond b (task ∷ queued_among tasks cpu) (queued_among tasks cpu))) [
-        | true ↦
-            cond-true _ (queued_of task ∷ others pid (queued_at tasks cpu)) (others pid (queued_at tasks cpu)) (ap not apart)
-            ∙ ap (λ (qs : List Queued). queued_of task ∷ qs) rest
-        | false ↦ rest
-      ]
+-- Of a changed task only its pid counts where it goes.
+pub but-changed : (task : Task) (tasks : List Task) → but task.spec.pid (map (replaced_by task) tasks) ≡ but task.spec.pid tasks
+but-changed task [] = refl
+but-changed task (first ∷ rest) =
+    let more = but-changed task rest in
+    elim (cases_Bool (has_pid task.spec.pid first)) [
+      | inl is ↦ rw (is, own_pid task) more
+      | inr is ↦ rw (is, is) (ap (λ (ts : List Task). first ∷ ts) more)
+    ]
 
-  -- and where the one with it is not queued on the sibling
-  pub absent_from : (cpu low : ℕ) (tasks : List Task) (task : Task) → RisesFrom low tasks → find (has_pid pid) tasks ≡ Some task →
-      is_on cpu task ≡ false → others pid (queued_at tasks cpu) ≡ queued_at tasks cpu
-  absent_from cpu low [] task rises found off = refl
-  absent_from cpu low (first ∷ tasks) task rises found off =
-      elim (cases_Bool (has_pid pid first)) [
-        | inl here ↦
-            let same : Some first ≡ Some task = sym (cond-true _ (Some first) (find (has_pid pid) tasks) here) ∙ found in
-            let is : first ≡ task = cc in
-            let at : first.spec.pid ≡ pid = eqb-true first.spec.pid pid here in
-            let none = others_none cpu (first.spec.pid + 1) tasks (omega (arith, at)) rises.1 in
-            let off_first : is_on cpu first ≡ false = ap (is_on cpu) is ∙ off in
-            ap (λ b. others pid (map queued_of (cond b (first ∷ queued_among tasks cpu) (queued_among tasks cpu)))) off_first
-            ∙ none
-            ∙ sym (ap (λ b. map queued_of (cond b (first ∷ queued_among tasks cpu) (queued_among tasks cpu))) off_first)
-        | inr past ↦
-            let rest = absent_from cpu (first.spec.pid + 1) tasks task rises.1 (sym (cond-false _ (Some first) (find (has_pid pid) tasks) past) ∙ found) off in
-            elim (is_on cpu first) as (λ b. others pid (map queued_of (cond b (first ∷ queued_among tasks cpu) (queued_among tasks cpu)))
-            ≡ map queued_of (cond b (first ∷ queued_among tasks cpu) (queued_among tasks cpu))) [
-              | true ↦
-                  cond-true _ (queued_of first ∷ others pid (queued_at tasks cpu)) (others pid (queued_at tasks cpu)) (ap not past)
-                  ∙ ap (λ (qs : List Queued). queued_of first ∷ qs) rest
-              | false ↦ rest
+module _ (pid cpu : ℕ) (tasks : List Task) where
+  -- A queue has the others where the table has.
+  pub queued_at-but : queued_at (but pid tasks) cpu ≡ others pid (queued_at tasks cpu)
+  queued_at-but =
+      let left : Task → Bool = λ task. not (has_pid pid task) in
+      ap (map queued_of) (filter-filter left (is_on cpu) tasks
+      ∙ filter_agree (λ task. left task && is_on cpu task) (λ task. is_on cpu task && left task) (λ task. and_comm (left task) (is_on cpu task)) tasks
+      ∙ sym (filter-filter (is_on cpu) left tasks))
+      ∙ sym (filter-map queued_of (λ (queued : Queued). not (queued.pid == pid)) (queued_among tasks cpu))
+
+  -- where no task of a queue has the pid, all are others
+  others_all : All (λ task. (is_on cpu task && not (has_pid pid task)) ≡ is_on cpu task) tasks → others pid (queued_at tasks cpu) ≡ queued_at tasks cpu
+  others_all each =
+      filter-map queued_of (λ (queued : Queued). not (queued.pid == pid)) (queued_among tasks cpu)
+      ∙ ap (map queued_of) (filter-filter (is_on cpu) (λ task. not (has_pid pid task)) tasks
+      ∙ filter_alike (λ task. is_on cpu task && not (has_pid pid task)) (is_on cpu) tasks each)
+
+  -- one with another pid is there as before
+  other : (task : Task) → has_pid pid task ≡ false → (is_on cpu task && not (has_pid pid task)) ≡ is_on cpu task
+  other task past = ap (λ b. is_on cpu task && not b) past ∙ and-true (is_on cpu task)
+
+  -- as where each has a higher one
+  pub others_none : (low : ℕ) → pid < low → RisesFrom low tasks → others pid (queued_at tasks cpu) ≡ queued_at tasks cpu
+  others_none low below rises =
+      others_all (All-weaker (λ task. low ≤ task.spec.pid) (λ task. (is_on cpu task && not (has_pid pid task)) ≡ is_on cpu task)
+      (λ task above. other task (ne_eqb task.spec.pid pid (λ same. omega (arith, same, below, above)))) tasks
+      (All-from_recursion (λ task. low ≤ task.spec.pid) tasks (above_all low tasks rises)))
+
+  -- or where the one with it is not queued on the sibling
+  pub others-absent : (task : Task) → Rises tasks → find (has_pid pid) tasks ≡ Some task → is_on cpu task ≡ false → others pid (queued_at tasks cpu) ≡ queued_at tasks cpu
+  others-absent task rises found off =
+      others_all (All-weaker (Contains tasks) (λ one. (is_on cpu one && not (has_pid pid one)) ≡ is_on cpu one)
+      (λ one within. each one (is_of tasks one rises within)) tasks (All-contains_itself tasks)) where
+        each : (one : Task) → IsOf tasks one → (is_on cpu one && not (has_pid pid one)) ≡ is_on cpu one
+        each one there =
+            elim (cases_Bool (has_pid pid one)) [
+              | inl here ↦
+                  let same : Some one ≡ Some task = sym there ∙ ap (λ n. find (has_pid n) tasks) (eqb-true one.spec.pid pid here) ∙ found in
+                  let is : one ≡ task = cc in
+                  let gone : is_on cpu one ≡ false = ap (is_on cpu) is ∙ off in
+                  (λ i. gone i && not (has_pid pid one)) ∙ sym gone
+              | inr past ↦ other one past
             ]
-      ]
 
 -- The others stay where the task with the pid is replaced.
 pub others-replaced : (task : Task) (tasks : List Task) (cpu : ℕ) →
     others task.spec.pid (queued_at (map (replaced_by task) tasks) cpu) ≡ others task.spec.pid (queued_at tasks cpu)
-others-replaced task [] cpu = refl
-others-replaced task (first ∷ tasks) cpu =
-    let rest = others-replaced task tasks cpu in
-    let now = queued_among (map (replaced_by task) tasks) cpu in
-    let before = queued_among tasks cpu in
-    let pid = task.spec.pid in
-    elim (cases_Bool (has_pid pid first)) [
-      | inl same ↦
-          ap (λ (head : Task). others pid (map queued_of (cond (is_on cpu head) (head ∷ now) now))) (cond-true _ task first same)
-          ∙ drop_head pid task now (is_on cpu task) (eq-eqb pid pid refl)
-          ∙ rest
-          ∙ sym (drop_head pid first before (is_on cpu first) same)
-      | inr other ↦
-          ap (λ (head : Task). others pid (map queued_of (cond (is_on cpu head) (head ∷ now) now))) (cond-false _ task first other)
-          ∙ keep_head pid first now before (is_on cpu first) rest
-    ]
+others-replaced task tasks cpu =
+    sym (queued_at-but task.spec.pid cpu (map (replaced_by task) tasks)) ∙ ap (λ (ts : List Task). queued_at ts cpu) (but-changed task tasks)
+    ∙ queued_at-but task.spec.pid cpu tasks
 
--- a queue on which the task with its pid is not queued holds no more than the others
-pub others-absent : (tasks : List Task) (task : Task) (cpu : ℕ) → Rises tasks → IsOf tasks task → is_on cpu task ≡ false →
-    others task.spec.pid (queued_at tasks cpu) ≡ queued_at tasks cpu
-others-absent tasks task cpu rises there off = absent_from task.spec.pid cpu 0 tasks task rises there off
+-- A queue holds the same after a change that it does not see.
+pub queued_at-map : (f : Task → Task) (tasks : List Task) (cpu : ℕ) → All (λ task. (is_on cpu (f task) ≡ is_on cpu task) × (queued_of (f task) ≡ queued_of task)) tasks →
+    queued_at (map f tasks) cpu ≡ queued_at tasks cpu
+queued_at-map f [] cpu each = refl
+queued_at-map f (task ∷ tasks) cpu each =
+    let Same : Task → Type 0 = λ task. (is_on cpu (f task) ≡ is_on cpu task) × (queued_of (f task) ≡ queued_of task) in
+    let here = All-head Same task tasks each in
+    let rest = queued_at-map f tasks cpu (All-tail Same task tasks each) in
+    let now = queued_among (map f tasks) cpu in
+    (λ i. map queued_of (cond (here.0 i) (f task ∷ now) now))
+    ∙ (elim (is_on cpu task) as (λ b. map queued_of (cond b (f task ∷ now) now) ≡ map queued_of (cond b (task ∷ queued_among tasks cpu) (queued_among tasks cpu))) [
+      | true ↦ λ i. here.1 i ∷ rest i
+      | false ↦ rest
+    ])
 
 -- ---- the queues
 

@@ -1,7 +1,7 @@
 -- Replaced: a task in the place of the one with its pid.
-use Rattle.std.proofs.Common.{◌≡◌, ◌⊎◌, inl, inr, ℕ, ◌+◌, ◌<◌, ◌≤◌, true, false, List, [], ◌∷◌, map, arith, refl, subst, sym, ap, ◌∙◌, Some}
+use Rattle.std.proofs.Common.{◌≡◌, ◌⊎◌, inl, inr, ℕ, ◌+◌, ◌<◌, ◌≤◌, true, false, List, [], ◌∷◌, map, refl, subst, sym, ap, ◌∙◌, Some, Bool, cond}
 use Rattle.std.specs.Prelude.{find, ◌==◌, All, IsTrue, length}
-use Rattle.std.proofs.lemmas.Bool.{cond_both, cond-true, cond-false, cases_Bool, eqb-true, eq-eqb, ne_eqb}
+use Rattle.std.proofs.lemmas.Bool.{cond_both, cond-true, cond-false, cases_Bool, eqb-true, eq-eqb}
 use Rattle.task_table.specs.Table.{Table, IsSound as IsTable, Rises, RisesFrom}
 use Rattle.std.proofs.lemmas.List.Elements.{All-map, All-weaker}
 use Rattle.cs_types.specs.declared.task.Task.{Task}
@@ -13,8 +13,12 @@ use Rattle.core_lanes.specs.declared.lanes.Core.{Core}
 use Rattle.core_lanes.specs.Lanes.{BareCore, bare, room_by, Agree, AreHeld, IsFit, MayStamp, FitsIn, Knows, Replaces}
 use Rattle.core_lanes.specs.Numbers.{numbers_by}
 use Rattle.core_lanes.specs.Changes.{Kept, identity_of, kept_of, Changes}
-use Rattle.core_lanes.proofs.Queues.{is_on, absent_from, others-replaced}
+use Rattle.core_lanes.proofs.Queues.{is_on, others-absent, others-replaced}
 use Rattle.core_lanes.proofs.Stays.{as_many_bare}
+use Rattle.task_table.proofs.Tables.{changed_each}
+use Rattle.std.proofs.lemmas.List.{map-id}
+use Rattle.cs_types.proofs.Tasks.{found_again}
+use Rattle.cs_types.proofs.Foremost.{find_passes}
 
 -- what holds of all, and of the one that takes a place
 pub All-replaced : (P : Task → Type 0) (task : Task) (tasks : List Task) → P task → All P tasks → All P (map (replaced_by task) tasks)
@@ -64,29 +68,12 @@ module _ (task old : Task) (tasks : List Task) (there : find (has_pid task.spec.
         ];
   }
 
--- behind the place of its pid a task takes none
-pub past : (task : Task) (low : ℕ) (tasks : List Task) → task.spec.pid < low → RisesFrom low tasks → map (replaced_by task) tasks ≡ tasks
-past task low [] below rises = refl
-past task low (t ∷ tasks) below rises =
-    let apart : has_pid task.spec.pid t ≡ false = ne_eqb t.spec.pid task.spec.pid (λ e. omega (arith, e, below, rises.0)) in
-    λ i. cond-false (has_pid task.spec.pid t) task t apart i ∷ past task (t.spec.pid + 1) tasks (omega (arith, below, rises.0)) rises.1 i
-
 -- a task in its own place changes nothing
 pub replaced-itself : (task : Task) (tasks : List Task) → Rises tasks → IsOf tasks task → map (replaced_by task) tasks ≡ tasks
-replaced-itself task tasks rises there = go 0 tasks rises there where
-  go : (low : ℕ) (ts : List Task) → RisesFrom low ts → find (has_pid task.spec.pid) ts ≡ Some task → map (replaced_by task) ts ≡ ts
-  go low [] rises found = refl
-  go low (t ∷ ts) rises found =
-      elim (cases_Bool (has_pid task.spec.pid t)) [
-        | inl here ↦
-            let same : Some t ≡ Some task = sym (cond-true _ (Some t) (find (has_pid task.spec.pid) ts) here) ∙ found in
-            let is : task ≡ t = cc in
-            let at : t.spec.pid ≡ task.spec.pid = eqb-true t.spec.pid task.spec.pid here in
-            (λ i. (cond-true (has_pid task.spec.pid t) task t here ∙ is) i ∷ past task (t.spec.pid + 1) ts (omega (arith, at)) rises.1 i)
-        | inr other ↦
-            let rest = go (t.spec.pid + 1) ts rises.1 (sym (cond-false _ (Some t) (find (has_pid task.spec.pid) ts) other) ∙ found) in
-            (λ i. cond-false (has_pid task.spec.pid t) task t other i ∷ rest i)
-      ]
+replaced-itself task tasks rises there = changed_each (λ one. one) tasks task rises there ∙ (λ i. map (λ one. both (has_pid task.spec.pid one) one i) tasks) ∙ map-id tasks where
+  both : (b : Bool) (one : Task) → cond b one one ≡ one
+  both true one = refl
+  both false one = refl
 
 -- the pids rise still
 pub rises-replaced : (task : Task) (tasks : List Task) → Rises tasks → Rises (map (replaced_by task) tasks)
@@ -107,37 +94,24 @@ rises-replaced task tasks rises = go 0 tasks rises where
 pub queued_at-replaced : (task old : Task) (tasks : List Task) (cpu : ℕ) → Rises tasks → find (has_pid task.spec.pid) tasks ≡ Some old →
     is_on cpu old ≡ false → is_on cpu task ≡ false → queued_at (map (replaced_by task) tasks) cpu ≡ queued_at tasks cpu
 queued_at-replaced task old tasks cpu rises there off_old off =
-    sym (absent_from task.spec.pid cpu 0 (map (replaced_by task) tasks) task (rises-replaced task tasks rises) (is_of task old tasks there) off)
+    sym (others-absent task.spec.pid cpu (map (replaced_by task) tasks) task (rises-replaced task tasks rises) (is_of task old tasks there) off)
     ∙ others-replaced task tasks cpu
-    ∙ absent_from task.spec.pid cpu 0 tasks old rises there off_old
+    ∙ others-absent task.spec.pid cpu tasks old rises there off_old
 
 -- each keeps its pid and cookie, where the one that takes a place has the cookie of the one that had it
 pub identities-replaced : (task old : Task) (tasks : List Task) → Rises tasks → find (has_pid task.spec.pid) tasks ≡ Some old → task.cookie ≡ old.cookie →
     map identity_of (map (replaced_by task) tasks) ≡ map identity_of tasks
-identities-replaced task old tasks rises there cookie = go 0 tasks rises there where
-  same_pid : (t : Task) → has_pid task.spec.pid t ≡ true → t.spec.pid ≡ task.spec.pid
-  same_pid t is = eqb-true t.spec.pid task.spec.pid is
+identities-replaced task old tasks rises there cookie = swap tasks ∙ ap (map identity_of) (replaced-itself old tasks rises (found_again task.spec.pid tasks old there)) where
+  pid : task.spec.pid ≡ old.spec.pid
+  pid = sym (eqb-true old.spec.pid task.spec.pid (find_passes (has_pid task.spec.pid) tasks old there))
 
-  past : (low : ℕ) (ts : List Task) → task.spec.pid < low → RisesFrom low ts → map identity_of (map (replaced_by task) ts) ≡ map identity_of ts
-  past low [] below rises = refl
-  past low (t ∷ ts) below rises =
-      let apart : has_pid task.spec.pid t ≡ false = ne_eqb t.spec.pid task.spec.pid (λ e. omega (arith, e, below, rises.0)) in
-      (λ i. identity_of (cond-false (has_pid task.spec.pid t) task t apart i) ∷ past (t.spec.pid + 1) ts (omega (arith, below, rises.0)) rises.1 i)
+  one : (t : Task) (b : Bool) → identity_of (cond b task t) ≡ identity_of (cond b old t)
+  one t true = λ i. (pid i, cookie i)
+  one t false = refl
 
-  go : (low : ℕ) (ts : List Task) → RisesFrom low ts → find (has_pid task.spec.pid) ts ≡ Some old → map identity_of (map (replaced_by task) ts) ≡ map identity_of ts
-  go low [] rises found = refl
-  go low (t ∷ ts) rises found =
-      elim (cases_Bool (has_pid task.spec.pid t)) [
-        | inl here ↦
-            let same : Some t ≡ Some old = sym (cond-true _ (Some t) (find (has_pid task.spec.pid) ts) here) ∙ found in
-            let is : t ≡ old = cc in
-            let identity : identity_of (replaced_by task t) ≡ identity_of t =
-            ap identity_of (cond-true (has_pid task.spec.pid t) task t here) ∙ (λ i. (sym (same_pid t here) i, (cookie ∙ ap (λ (o : Task). o.cookie) (sym is)) i)) in
-            (λ i. identity i ∷ past (t.spec.pid + 1) ts (omega (arith, same_pid t here)) rises.1 i)
-        | inr other ↦
-            let rest = go (t.spec.pid + 1) ts rises.1 (sym (cond-false _ (Some t) (find (has_pid task.spec.pid) ts) other) ∙ found) in
-            (λ i. identity_of (cond-false (has_pid task.spec.pid t) task t other i) ∷ rest i)
-      ]
+  swap : (ts : List Task) → map identity_of (map (replaced_by task) ts) ≡ map identity_of (map (replaced_by old) ts)
+  swap [] = refl
+  swap (t ∷ ts) = λ i. (one t (has_pid task.spec.pid t) ∙ ap (λ n. identity_of (cond (has_pid n t) old t)) pid) i ∷ swap ts i
 
 -- a core and a table agree still where a task that fits takes the place of the one with its pid, and the queues hold it so
 pub agree-replaced : {Q : Type 0} {g : Ghosts Q} (old new : Core Q g) (before now : Table) (task : Task) → FitsIn (old, before) task → bare new ≡ bare old →
@@ -180,3 +154,12 @@ changes_known core now table after task knows replaced =
             (identities-replaced task apart.old table.tasks apart.agree.table.rising apart.there knows.known.cookie);
       };
     }
+
+-- and so where the queues hold it
+pub changes_replaced : {Q : Type 0} {g : Ghosts Q} (old new : Core Q g) (before after : Table) (task : Task) → Knows (old, before) task → bare new ≡ bare old →
+    after ≡ record before { tasks = map (replaced_by task) before.tasks } → IsTable after → AreHeld (new, after) → Changes (old, before) (new, after) (λ room. with_task room task)
+changes_replaced old new before after task knows same changed sound held = changes_known old new before after task knows (record {
+  table = changed;
+  bare = same;
+  agree = agree-replaced old new before after task (fits_known (old, before) task knows) same changed sound held;
+})

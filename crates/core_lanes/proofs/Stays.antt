@@ -3,24 +3,30 @@ use Rattle.std.proofs.Common.{◌≡◌, inl, inr, ℕ, ◌<◌, ◌≤◌, List
 use Rattle.std.specs.Prelude.{All, IfSome, IsTrue, find, slice_get, ◌==◌}
 use Rattle.std.proofs.lemmas.Bool.{cases_Bool, cond-true, cond-false, eqb-true}
 use Rattle.std.proofs.lemmas.List.Elements.{All-weaker}
-use Rattle.std.proofs.lemmas.List.{get_or-map, length-map}
+use Rattle.std.proofs.lemmas.List.{get_or-map, length-map, map-set}
 use Rattle.std.proofs.lemmas.Option.{slice_get-get_or}
 use Rattle.std.proofs.Math.Seq.{map-set_same}
 use Rattle.cs_types.specs.declared.task.Task.{Task}
-use Rattle.cs_types.specs.Room.{absent, has_pid}
+use Rattle.cs_types.specs.Room.{absent, has_pid, SiblingState, sibling_of, with_sibling, RoomState}
 use Rattle.task_table.specs.Table.{Table, IsSound as IsTable}
 use Rattle.core_lanes.proofs.Lists.{All-find}
 use Rattle.cs_types.specs.Scenario.{IsPolicy}
 use Rattle.core_lanes.specs.Queued.{queued_at, AreStamped, HavePolicies}
-use Rattle.core_lanes.specs.Lanes.{Beside, BareCore, bare, lane_state, IsFit, Agree, AgreeAway, queues_of, MayStamp}
-use Rattle.core_lanes.specs.Changes.{Stays, identity_of}
+use Rattle.core_lanes.specs.Lanes.{Beside, BareCore, bare, lane_state, IsFit, Agree, AgreeAway, queues_of, MayStamp, room_by, room_of, beside_after}
+use Rattle.core_lanes.specs.Changes.{Stays, identity_of, Changes}
 use Rattle.core_lanes.specs.declared.queue.SiblingQueue.{Ghosts}
 use Rattle.core_lanes.specs.declared.lane.Lane.{Lane}
 use Rattle.core_lanes.specs.declared.lanes.Core.{Core}
+use Rattle.core_lanes.specs.Numbers.{numbers_by}
 
 -- something beside a core: what is said of it with anything beside it is said with this
 pub some_beside : Beside
 some_beside = record { cookie_limit = 0; user_top = 0; clock = 0; ended = []; next_pid = 0; next_cookie = 0; intervals = []; guards = record { all = []; active = [] } }
+
+-- a core and a table stand for a room of which they have all but what is beside them
+pub stands : {Q : Type 0} {g : Ghosts Q} (beside : Beside) (both : Core Q g × Table) (room : RoomState) → room_of beside both ≡ room →
+    room_of (beside_after beside room) both ≡ room
+stands beside both room is = subst (λ (r : RoomState). room_of (beside_after beside r) both ≡ r) is refl
 
 -- what stays through two changes stays through both
 pub both_stay : {Q : Type 0} {g : Ghosts Q} {old mid new : Core Q g × Table} → Stays old mid → Stays mid new → Stays old new
@@ -100,6 +106,22 @@ numbers_kept lanes cpu x y is same = map-set_same number_of lanes cpu y x (same 
 pub queues_kept : {Q : Type 0} (lanes : List (Lane Q)) (cpu : ℕ) (x y : Lane Q) → x ≡ get_or lanes cpu x → y.queue ≡ x.queue →
     map queue_of (set lanes cpu y) ≡ map queue_of lanes
 queues_kept lanes cpu x y is same = map-set_same queue_of lanes cpu y x (same ∙ ap queue_of is)
+
+-- where one keeps both, and no other changes, it alone is another in the room
+pub changes_sibling : {Q : Type 0} {g : Ghosts Q} (core new : Core Q g) (table : Table) (cpu : ℕ) (x y : Lane Q) (change : SiblingState → SiblingState) → cpu < length core.lanes.items →
+    x ≡ get_or core.lanes.items cpu x → y.number ≡ x.number → y.queue ≡ x.queue → lane_state y ≡ change (lane_state x) → new.lanes.items ≡ set core.lanes.items cpu y →
+    bare new ≡ record (bare core) { siblings = map lane_state new.lanes.items; own = map number_of new.lanes.items } →
+    Changes (core, table) (new, table) (λ room. with_sibling room cpu (change (sibling_of room cpu)))
+changes_sibling core new table cpu x y change below is number queue state items rest =
+    let lanes = core.lanes.items in
+    let states = ap (map lane_state) items ∙ map-set lane_state lanes cpu y ∙ ap (set (map lane_state lanes) cpu) (state ∙ ap change (sym (lane_at lanes cpu x below is))) in
+    let own = ap (map number_of) items ∙ numbers_kept lanes cpu x y is number in
+    let same = rest ∙ (λ i. let now : BareCore = record (bare core) { siblings = states i; own = own i } in now) in
+    record {
+      room = λ beside i. room_by beside (same i) table;
+      numbers = λ i. numbers_by (same i) table;
+      stays = alike_stays (core, table) (new, table) (ap (map queue_of) items ∙ queues_kept lanes cpu x y is queue) refl (ap (λ (b : BareCore). b.next_stamp) rest);
+    }
 
 -- the queue of the sibling at a place
 pub queue_at : {Q : Type 0} (lanes : List (Lane Q)) (cpu : ℕ) (x : Lane Q) → cpu < length lanes → x ≡ get_or lanes cpu x →

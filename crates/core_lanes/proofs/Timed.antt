@@ -1,9 +1,8 @@
 -- Timed: a task in the place of what it was, where its times alone are others.
-use Rattle.std.proofs.Common.{◌≡◌, ℕ, ◌<◌, ◌≤◌, Bool, true, false, cond, eqb-true, List, [], ◌∷◌, map, refl, sym, ap, ◌∙◌, subst}
+use Rattle.std.proofs.Common.{◌≡◌, ℕ, ◌<◌, ◌≤◌, Bool, true, false, cond, List, map, refl, sym, ap, ◌∙◌, subst, get_or, eqb-true}
 use Rattle.std.specs.Prelude.{find, Some, IsTrue, length, All}
 use Rattle.cs_types.specs.declared.task.Task.{Task}
 use Rattle.cs_types.specs.declared.task.TaskSpec.{TaskSpec}
-use Rattle.cs_types.specs.declared.queue.Queued.{Queued}
 use Rattle.cs_types.specs.Scenario.{IsPolicy}
 use Rattle.cs_types.specs.Queue.{queued_of}
 use Rattle.cs_types.specs.Room.{has_pid, with_task}
@@ -14,12 +13,11 @@ use Rattle.task_table.specs.Table.{Table, Rises, IsSound as IsTable}
 use Rattle.task_table.proofs.Tables.{changed_each}
 use Rattle.core_lanes.specs.declared.queue.SiblingQueue.{Ghosts}
 use Rattle.core_lanes.specs.declared.lanes.Core.{Core}
-use Rattle.core_lanes.specs.Queued.{IsOf, AreStamped, queued_among, queued_at}
+use Rattle.core_lanes.specs.Queued.{IsOf, AreStamped, queued_at}
 use Rattle.core_lanes.specs.Lanes.{BareCore, bare, room_by, IsFit, Agree, AreHeld, Knows}
 use Rattle.core_lanes.specs.Numbers.{numbers_by}
 use Rattle.core_lanes.specs.Changes.{Kept, identity_of, Changes}
-use Rattle.core_lanes.proofs.Alike.{held_head}
-use Rattle.core_lanes.proofs.Queues.{is_on}
+use Rattle.core_lanes.proofs.Queues.{is_on, queued_at-map}
 use Rattle.core_lanes.proofs.Replaced.{stamped-replaced, All-replaced, identities-replaced}
 use Rattle.core_lanes.proofs.Stays.{as_many_bare, found_in}
 
@@ -110,19 +108,12 @@ module _ {Q : Type 0} {g : Ghosts Q} (old new : Core Q g) (before after : Table)
 abbrev using : ℕ → ℕ → Task → Task
 using pid used task = cond (has_pid pid task) (record task { used = used }) task
 
-one_used : (used cpu : ℕ) (task : Task) (tasks after : List Task) (b : Bool) → queued_at after cpu ≡ queued_at tasks cpu →
-    queued_at (cond b (record task { used = used }) task ∷ after) cpu ≡ queued_at (task ∷ tasks) cpu
-one_used used cpu task tasks after b rest =
-    elim b as (λ c. queued_at (cond c (record task { used = used }) task ∷ after) cpu ≡ cond (is_on cpu task) (queued_of task ∷ queued_at after cpu) (queued_at after cpu)) [
-      | true ↦ held_head (record task { used = used }) (is_on cpu task) (queued_among after cpu)
-      | false ↦ held_head task (is_on cpu task) (queued_among after cpu)
-    ]
-    ∙ ap (λ (held : List Queued). cond (is_on cpu task) (queued_of task ∷ held) held) rest
-    ∙ sym (held_head task (is_on cpu task) (queued_among tasks cpu))
-
+-- so each holds the same where that alone changes
 queued_at-used : (pid used cpu : ℕ) (tasks : List Task) → queued_at (map (using pid used) tasks) cpu ≡ queued_at tasks cpu
-queued_at-used pid used cpu [] = refl
-queued_at-used pid used cpu (task ∷ tasks) = one_used used cpu task tasks (map (using pid used) tasks) (has_pid pid task) (queued_at-used pid used cpu tasks)
+queued_at-used pid used cpu tasks = queued_at-map (using pid used) tasks cpu (λ k d below. let one = get_or tasks k d in same one (has_pid pid one)) where
+  same : (one : Task) (b : Bool) → let now : Task = cond b (record one { used = used }) one in (is_on cpu now ≡ is_on cpu one) × (queued_of now ≡ queued_of one)
+  same one true = (refl, refl)
+  same one false = (refl, refl)
 
 -- where that alone changes, the room is the old one with it, and the queues hold what they held
 pub changes_used : {Q : Type 0} {g : Ghosts Q} (core : Core Q g) (before after : Table) (pid used : ℕ) (was : Task) → Agree (core, before) → find (has_pid pid) before.tasks ≡ Some was →

@@ -54,8 +54,3 @@ module _ {Q : Type 0} {g : Ghosts Q} (now : ℕ) (old new : Core Q g × Table) (
             ∙ ap (λ (made : Scheduled). took cpu chosen (booked made.room (numbers_in beside old))) (sym (same beside));
         stays = schedules.stays;
       }
-
--- a core and a table stand for a room of which they have all but what is beside them
-pub stands : {Q : Type 0} {g : Ghosts Q} (beside : Beside) (both : Core Q g × Table) (room : RoomState) → room_of beside both ≡ room →
-    room_of (beside_after beside room) both ≡ room
-stands beside both room is = subst (λ (r : RoomState). room_of (beside_after beside r) both ≡ r) is refl

@@ -12,7 +12,7 @@ use Rattle.cs_types.specs.Order.{fair_class, idle_class, class_of, first_of, goe
 use Rattle.cs_types.specs.Selection.{first_on, cookie_of, pid_of, is_fair_task, queued_with, choice, is_forced, forced_count, occupation_of}
 use Rattle.cs_types.specs.declared.task.Task.{Task}
 use Rattle.cs_types.specs.declared.task.Policy.{Policy}
-use Rattle.cs_types.specs.declared.task.Policy.TheVariants.{Stop, Deadline, Fifo, Rr, Fair}
+use Rattle.cs_types.specs.declared.task.Policy.TheVariants.{Stop}
 use Rattle.sibling_priority.specs.Offers.{class_of_first}
 use Rattle.core_lanes.specs.declared.lane.Lane.{Lane}
 use Rattle.core_pick.specs.declared.choice.Choice.{Choice}
@@ -23,10 +23,7 @@ use Rattle.core_lanes.proofs.Lists.{count_at, range_more, All-find}
 -- what is kept of a task tells whether there is one, which, and whether it is fair
 no_idle : (policy : Policy) → (class_of policy == idle_class) ≡ false
 no_idle Stop = refl
-no_idle (Deadline relative) = refl
-no_idle (Fifo priority) = refl
-no_idle (Rr priority) = refl
-no_idle (Fair nice) = refl
+no_idle policy = refl
 
 pub is_idle : (first : Option Task) → (class_of_first first == idle_class) ≡ is_none first
 is_idle None = refl

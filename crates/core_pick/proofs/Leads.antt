@@ -11,7 +11,7 @@ use Rattle.cs_types.specs.Queue.{rank_by}
 use Rattle.cs_types.specs.Selection.{first_on, snapshot_of, lead_from}
 use Rattle.cs_types.specs.Scenario.{IsPolicy}
 use Rattle.cs_types.specs.declared.task.Policy.{Policy}
-use Rattle.cs_types.specs.declared.task.Policy.TheVariants.{Stop, Deadline, Fifo, Rr, Fair}
+use Rattle.cs_types.specs.declared.task.Policy.TheVariants.{Stop}
 use Rattle.cs_types.specs.declared.task.Task.{Task}
 use Rattle.cs_types.proofs.First.{outranks_is_order}
 use Rattle.cs_types.proofs.Foremost.{foremost_reduce}
@@ -155,10 +155,7 @@ record IsRank (class rank : ℕ) : Type 0 where
 
 is_rank : (policy : Policy) (deadline vtime : ℕ) → IsRank (class_of policy) (rank_by policy deadline vtime)
 is_rank Stop deadline vtime = record { below = omega arith; stop = λ is. refl; idle = λ is. refl }
-is_rank (Deadline relative) deadline vtime = record { below = omega arith; stop = λ is. absurd (omega (arith, is)); idle = λ is. absurd (omega (arith, is)) }
-is_rank (Fifo priority) deadline vtime = record { below = omega arith; stop = λ is. absurd (omega (arith, is)); idle = λ is. absurd (omega (arith, is)) }
-is_rank (Rr priority) deadline vtime = record { below = omega arith; stop = λ is. absurd (omega (arith, is)); idle = λ is. absurd (omega (arith, is)) }
-is_rank (Fair nice) deadline vtime = record { below = omega arith; stop = λ is. absurd (omega (arith, is)); idle = λ is. absurd (omega (arith, is)) }
+is_rank policy deadline vtime = record { below = omega arith; stop = λ is. absurd (omega (arith, is)); idle = λ is. absurd (omega (arith, is)) }
 
 rank_of : (first : Option Task) → IsRank (class_of_first first) (rank_of_first first)
 rank_of None = record { below = omega arith; stop = λ is. refl; idle = λ is. refl }

@@ -24,6 +24,7 @@ use Rattle.core_lanes.proofs.Lists.{filter-map, any-push, any-filter, range_more
 use Rattle.core_lanes.proofs.Stays.{both_stay, alike_stays}
 use Rattle.core_pick.specs.declared.choice.Choice.{Choice}
 use Rattle.core_pick.specs.Choice.{run_of, is_choice_of, task_after_choice}
+use Rattle.std.proofs.Math.Bool.{or-false}
 
 -- ---- the task that is chosen for a sibling
 
@@ -85,11 +86,8 @@ module _ (gets : ℕ → ℕ → Bool) (occupation cpu : ℕ) where
   map-remembering_same none [] = refl
   map-remembering_same none (task ∷ tasks) =
       let pid = task.spec.pid in
-      let one = ap (λ b. record task { occupation = cond b occupation task.occupation }) (or-false (list_any (λ n. gets n pid) (range_with_len 0 cpu)) ∙ ap (λ b. list_any (λ n. gets n pid) (range_with_len 0 cpu) || b) (sym (none pid)) ∙ sym (any_more pid)) in
-      λ i. one i ∷ map-remembering_same none tasks i where
-        or-false : (b : Bool) → b ≡ (b || false)
-        or-false true = refl
-        or-false false = refl
+      let one = ap (λ b. record task { occupation = cond b occupation task.occupation }) (sym (or-false (list_any (λ n. gets n pid) (range_with_len 0 cpu))) ∙ ap (λ b. list_any (λ n. gets n pid) (range_with_len 0 cpu) || b) (sym (none pid)) ∙ sym (any_more pid)) in
+      λ i. one i ∷ map-remembering_same none tasks i
 
 -- at the start none remembers
 pub map-remembering_none : (gets : ℕ → ℕ → Bool) (occupation : ℕ) (tasks : List Task) → tasks ≡ map (remembering gets occupation 0) tasks

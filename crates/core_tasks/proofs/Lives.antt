@@ -1,6 +1,6 @@
 -- Lives: the tasks with one more among them, with one changed and then gone, and how a core agrees with these.
-use Rattle.std.proofs.Common.{◌≢◌, ◌++◌, ◌≡◌, ℕ, ◌+◌, ◌<◌, ◌≤◌, Bool, true, false, cond, List, [], ◌∷◌, map, refl, subst, sym, ap, ◌∙◌, inl, inr, eq-eqb, ne_eqb, ltb, arith, length}
-use Rattle.std.specs.Prelude.{All, Option, Some, None, Ok, Err, filter, find, not, ◌&&◌, ◌||◌, ◌==◌, IsTrue}
+use Rattle.std.proofs.Common.{◌≢◌, ◌++◌, ◌≡◌, ℕ, ◌+◌, ◌<◌, ◌≤◌, Bool, true, false, cond, List, [], ◌∷◌, map, refl, subst, sym, ap, ◌∙◌, inl, inr, ltb, arith, length, eq-eqb, ne_eqb}
+use Rattle.std.specs.Prelude.{All, Option, Some, None, Ok, Err, find, not, ◌&&◌, ◌||◌, ◌==◌, IsTrue}
 use Rattle.std.specs.List.{list_any}
 use Rattle.std.proofs.lemmas.Bool.{cases_eq, cases_Bool, cond-true, cond-false, eqb-true}
 use Rattle.std.proofs.lemmas.Bool.Decides.{nat_tests}
@@ -22,42 +22,15 @@ use Rattle.fork_inherit.specs.Answers.{fork_answer}
 use Rattle.fork_inherit.specs.declared.forking.ForkFault.TheVariants.{Eagain}
 use Rattle.core_lanes.specs.declared.queue.SiblingQueue.{Ghosts}
 use Rattle.core_lanes.specs.declared.lanes.Core.{Core}
-use Rattle.core_lanes.specs.Queued.{queued_among, queued_at, others, IsOf, AreStamped}
+use Rattle.core_lanes.specs.Queued.{queued_among, queued_at, IsOf, AreStamped}
 use Rattle.core_lanes.specs.Lanes.{IsFit, Agree}
 use Rattle.core_lanes.proofs.Stays.{found_in}
-use Rattle.core_lanes.proofs.Queues.{is_on, others-absent, off_asleep}
+use Rattle.core_lanes.proofs.Queues.{others-absent, off_asleep, is_on, but, own_pid, queued_at-but}
 use Rattle.core_tasks.specs.State.{IsGiven, IsGone}
-
-own_pid : (task : Task) → has_pid task.spec.pid task ≡ true
-own_pid task = eq-eqb task.spec.pid task.spec.pid refl
 
 -- ---- a task that is changed, and then gone
 
--- the tasks but for the one with this pid
-abbrev pub but : ℕ → List Task → List Task
-but pid tasks = filter (λ other. not (has_pid pid other)) tasks
-
--- Of a changed task only its pid counts where it goes.
-pub but-changed : (task : Task) (tasks : List Task) → but task.spec.pid (map (replaced_by task) tasks) ≡ but task.spec.pid tasks
-but-changed task [] = refl
-but-changed task (first ∷ rest) =
-    let more = but-changed task rest in
-    elim (cases_Bool (has_pid task.spec.pid first)) [
-      | inl is ↦ rw (is, own_pid task) more
-      | inr is ↦ rw (is, is) (ap (λ (ts : List Task). first ∷ ts) more)
-    ]
-
--- The changed task is found by its pid.
-pub find-changed : (task old : Task) (tasks : List Task) → find (has_pid task.spec.pid) tasks ≡ Some old →
-    find (has_pid task.spec.pid) (map (replaced_by task) tasks) ≡ Some task
-find-changed task old [] found = absurd cc
-find-changed task old (first ∷ rest) found =
-    elim (cases_Bool (has_pid task.spec.pid first)) [
-      | inl is ↦ rw (is, own_pid task) refl
-      | inr is ↦ rw (is, is) (find-changed task old rest (rw is at found))
-    ]
-
--- So what is asked of the others alone is answered as before.
+-- What is asked of the others alone is answered as before.
 pub any-changed : (task : Task) (p : Task → Bool) (tasks : List Task) →
     list_any (λ other. p other && not (has_pid task.spec.pid other)) (map (replaced_by task) tasks)
     ≡ list_any (λ other. p other && not (has_pid task.spec.pid other)) tasks
@@ -67,30 +40,6 @@ any-changed task p (first ∷ rest) =
     elim (cases_Bool (has_pid task.spec.pid first)) [
       | inl is ↦ rw (is, own_pid task, and-false (p task), and-false (p first)) more
       | inr is ↦ rw (is, is) (ap (λ b. (p first && true) || b) more)
-    ]
-
--- A queue holds the others still.
-queued_at-but : (pid cpu : ℕ) (tasks : List Task) → queued_at (but pid tasks) cpu ≡ others pid (queued_at tasks cpu)
-queued_at-but pid cpu [] = refl
-queued_at-but pid cpu (task ∷ tasks) =
-    let rest = queued_at-but pid cpu tasks in
-    let among = queued_among tasks cpu in
-    elim (cases_Bool (has_pid pid task)) [
-      | inl here ↦
-          ap (λ (ts : List Task). queued_at ts cpu) (cond-false _ (task ∷ but pid tasks) (but pid tasks) (ap not here))
-          ∙ rest
-          ∙ (elim (is_on cpu task) as (λ b. others pid (map queued_of among) ≡ others pid (map queued_of (cond b (task ∷ among) among))) [
-            | true ↦ sym (cond-false _ (queued_of task ∷ others pid (map queued_of among)) (others pid (map queued_of among)) (ap not here))
-            | false ↦ refl
-          ])
-      | inr past ↦
-          ap (λ (ts : List Task). queued_at ts cpu) (cond-true _ (task ∷ but pid tasks) (but pid tasks) (ap not past))
-          ∙ (elim (is_on cpu task) as (λ b. map queued_of (cond b (task ∷ queued_among (but pid tasks) cpu) (queued_among (but pid tasks) cpu))
-          ≡ others pid (map queued_of (cond b (task ∷ among) among))) [
-            | true ↦ ap (λ (qs : List Queued). queued_of task ∷ qs) rest
-                ∙ sym (cond-true _ (queued_of task ∷ others pid (map queued_of among)) (others pid (map queued_of among)) (ap not past))
-            | false ↦ rest
-          ])
     ]
 
 -- Each that is left was there.
@@ -118,7 +67,7 @@ agree-but {Q} {g} core table task totals there asleep sound agree =
       };
       held = λ cpu queue at.
           subst (λ qs. g.holds queue table.limit qs)
-          (sym (queued_at-but pid cpu table.tasks ∙ others-absent table.tasks task cpu rises there (off_asleep task cpu asleep)))
+          (sym (queued_at-but pid cpu table.tasks ∙ others-absent pid cpu table.tasks task rises there (off_asleep task cpu asleep)))
           (agree.held cpu queue at);
     }
 

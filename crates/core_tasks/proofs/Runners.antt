@@ -1,8 +1,8 @@
 -- Runners: where each sibling runs a task that is at home there, only the home of a task can run it.
-use Rattle.std.proofs.Common.{◌≡◌, ◌≢◌, ℕ, zero, suc, ◌<◌, Bool, true, false, cond, List, [], ◌∷◌, map, length, set, get_or, refl, subst, sym, ap, ◌∙◌, arith, Option, Some, None}
-use Rattle.std.specs.Prelude.{◌==◌, ◌||◌, IfSome, IsSomeAnd}
+use Rattle.std.proofs.Common.{◌≡◌, ◌≢◌, ℕ, zero, suc, ◌<◌, false, cond, List, [], ◌∷◌, map, length, set, get_or, refl, subst, sym, ap, ◌∙◌, arith, Option, Some, None}
+use Rattle.std.specs.Prelude.{◌||◌, IfSome, IsSomeAnd}
 use Rattle.std.specs.Option.{option_map}
-use Rattle.std.proofs.lemmas.Bool.{eqb-true, cond_both}
+use Rattle.std.proofs.lemmas.Bool.{cond_both, ne_eqb}
 use Rattle.cs_types.specs.declared.task.Task.{Task}
 use Rattle.cs_types.specs.Room.{RoomState, SiblingState, absent, task_of, sibling_of}
 use Rattle.cs_types.specs.Selection.{is_run}
@@ -17,6 +17,7 @@ use Rattle.core_lanes.proofs.Stays.{some_beside}
 use Rattle.core_tasks.specs.declared.state.State.{State}
 use Rattle.core_tasks.specs.State.{both, room_with}
 use Rattle.core_tasks.specs.Cookies.{flagged_for, RunsAtMostAt}
+use Rattle.std.proofs.Math.Bool.{or-false}
 
 -- ---- a change that leaves all of a list but one alone
 
@@ -41,10 +42,7 @@ module _ {X : Type 0} (f : X → X) (d : X) where
 pub flagged_nothing : (pid : ℕ) (sibling : SiblingState) → is_run sibling.run (Some pid) ≡ false → flagged_for pid sibling ≡ sibling
 flagged_nothing pid sibling other =
     ap (λ b. let same : SiblingState = record sibling { pending = sibling.pending || b } in same) other
-    ∙ ap (λ b. let same : SiblingState = record sibling { pending = b } in same) (or_false sibling.pending) where
-      or_false : (b : Bool) → (b || false) ≡ b
-      or_false true = refl
-      or_false false = refl
+    ∙ ap (λ b. let same : SiblingState = record sibling { pending = b } in same) (or-false sibling.pending)
 
 -- no sibling but its home runs a living task
 pub runs_at_home : {Q : Type 0} {g : Ghosts Q} (pair : Core Q g × Table) (task : Task) → RunTheirOwn pair → IsOf pair.1.tasks task →
@@ -58,12 +56,7 @@ runs_at_home {Q} {g} pair task own there cpu away = other (sibling_of room cpu).
 
   other : (run : Option ℕ) → IfSome run (λ pid. IsHome (task_of room pid)) → is_run run (Some task.spec.pid) ≡ false
   other None home = refl
-  other (Some pid) home = by_test (pid == task.spec.pid) refl where
-    by_test : (test : Bool) → (pid == task.spec.pid) ≡ test → (pid == task.spec.pid) ≡ false
-    by_test true same =
-        let at_home : task.home ≡ cpu = subst IsHome there (subst (λ n. IsHome (task_of room n)) (eqb-true pid task.spec.pid same) home) in
-        absurd (away (sym at_home))
-    by_test false differs = differs
+  other (Some pid) home = ne_eqb pid task.spec.pid (λ same. away (sym (subst IsHome there (subst (λ n. IsHome (task_of room n)) same home))))
 
 -- ---- cookies that are set
 

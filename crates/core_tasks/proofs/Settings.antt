@@ -1,5 +1,5 @@
 -- Settings: what the loop over a group keeps, and what a call of `prctl` comes to.
-use Rattle.std.proofs.Common.{◌≡◌, ℕ, ◌+◌, ◌*◌, ◌<◌, ◌≤◌, Bool, true, false, List, [], ◌∷◌, map, length, refl, subst, sym, ap, ◌∙◌, arith, ltb, eqb, add-zero, Option, Some, None}
+use Rattle.std.proofs.Common.{◌≡◌, ℕ, ◌+◌, ◌*◌, ◌<◌, ◌≤◌, Bool, true, false, List, [], ◌∷◌, map, length, refl, subst, sym, ap, ◌∙◌, arith, ltb, eqb, Option, Some, None}
 use Rattle.std.specs.Prelude.{◌==◌, ◌&&◌, ◌||◌, find, filter, All, IfSome, IfNone}
 use Rattle.std.specs.Option.{option_map_or}
 use Rattle.std.proofs.lemmas.Bool.{lt-ltb}
@@ -34,7 +34,8 @@ use Rattle.core_tasks.specs.declared.state.State.{State}
 use Rattle.core_tasks.specs.State.{room_with, IsGiven, StaysBut, state_numbers}
 use Rattle.core_tasks.specs.Steps.{numbers_after, MakesWith}
 use Rattle.core_tasks.specs.Cookies.{setting, flagged_for, SetsCookies}
-use Rattle.core_tasks.proofs.States.{uncharged, same_stays}
+use Rattle.core_tasks.proofs.States.{uncharged, same_stays, untouched}
+use Rattle.std.proofs.Math.Bool.{or-false}
 
 -- ---- the members of a group
 
@@ -62,10 +63,7 @@ run_test a b = grind (arith, nat_tests)
 
 flags_alike : (task : Task) (cookie : ℕ) (run : Option ℕ) → is_run run (Some task.spec.pid) ≡ option_map_or (is_set (setting (task ∷ []) cookie)) run false
 flags_alike task cookie None = refl
-flags_alike task cookie (Some pid) = run_test task.spec.pid pid ∙ or_false_is (eqb task.spec.pid pid) where
-  or_false_is : (b : Bool) → b ≡ (b || false)
-  or_false_is true = refl
-  or_false_is false = refl
+flags_alike task cookie (Some pid) = run_test task.spec.pid pid ∙ sym (or-false (eqb task.spec.pid pid))
 
 -- the siblings that run it become pending
 flagged_alike : (task : Task) (cookie : ℕ) (siblings : List SiblingState) →
@@ -105,12 +103,10 @@ module _ {Q G : Type 0} {g : Ghosts Q} (old now : State Q G g) (cookie : ℕ) (l
   group_done none stays = record {
     room = λ intervals. sym (set_cookies-none (room_with intervals now) cookie)
         ∙ ap (λ (tasks : List Task). set_cookies (room_with intervals now) (setting tasks cookie)) (sym none) ∙ room intervals;
-    numbers = sym (touched_none (state_numbers now))
+    numbers = untouched (state_numbers now)
         ∙ ap (λ (tasks : List Task). touched (setting_touches (setting tasks cookie)) (state_numbers now)) (sym none) ∙ numbers;
     stays = stays;
-  } where
-    touched_none : (n : Numbers) → touched 0 n ≡ n
-    touched_none n = ap (λ m. record n { task = m }) (add-zero n.task)
+  }
 
   -- one more gets it
   pub group_room : (next : State Q G g) (task : Task) (rest : List Task) → left ≡ task ∷ rest → SetsCookies now next (task ∷ []) cookie →
@@ -207,10 +203,6 @@ module _ {Q G : Type 0} {g : Ghosts Q} (intervals : List Interval) (old mid afte
               ∙ ap (λ r. numbers_after (room_with intervals old) (Prctl pid ask) r (state_numbers old)) (sym is);
         })
     by_reply reply is granted = absurd granted
-
--- nothing is touched
-untouched : (numbers : Numbers) → numbers ≡ touched 0 numbers
-untouched numbers = ap (λ n. let other : Numbers = record numbers { task = n } in other) (omega arith)
 
 -- a call that is refused sets nothing
 pub makes_refusal : {Q G : Type 0} {g : Ghosts Q} (intervals : List Interval) (old new : State Q G g) (pid : ℕ) (ask : Ask) (reply : Reply) → IsRefusal reply →

@@ -14,12 +14,12 @@ use Rattle.cookie_refs.specs.Refs.{Refs, references, AgreeBut}
 use Rattle.task_table.specs.Table.{Table}
 use Rattle.core_lanes.specs.declared.queue.SiblingQueue.{Ghosts}
 use Rattle.core_lanes.specs.declared.lanes.Core.{Core}
-use Rattle.core_lanes.specs.Numbers.{booked, is_fresh_by}
+use Rattle.core_lanes.specs.Numbers.{booked, is_fresh_by, Numbers, touched}
 use Rattle.core_lanes.specs.Changes.{Kept, identity_of, IsBooked}
-use Rattle.core_lanes.specs.Changes as core
 use Rattle.core_tasks.specs.declared.state.State.{State}
 use Rattle.core_tasks.specs.State.{both, beside_of, room_with, state_numbers, IsGiven, IsGone, StaysBut}
 use Rattle.core_tasks.specs.Steps.{numbers_after, MakesStep, Makes}
+use Rattle.core_lanes.specs.Changes as core
 
 -- ---- what stays
 
@@ -134,3 +134,7 @@ leaves_all state event answer numbers made = record {
   });
   stays = same_stays;
 }
+
+-- nothing is touched
+pub untouched : (numbers : Numbers) → numbers ≡ touched 0 numbers
+untouched numbers = ap (λ n. let other : Numbers = record numbers { task = n } in other) (omega arith)

@@ -1,5 +1,5 @@
 -- Each: the tasks of a sibling that leaves move to another one by one, whatever the queues hold meanwhile.
-use Rattle.std.proofs.Common.{true, zero, suc, ◌≡◌, ◌+◌, ◌*◌, ◌<◌, ◌≤◌, ◌^◌, ℕ, List, refl, subst, sym, ap, ◌∙◌, arith, length, map, get_or}
+use Rattle.std.proofs.Common.{true, zero, suc, ◌≡◌, ◌+◌, ◌*◌, ◌<◌, ◌≤◌, ◌^◌, ℕ, List, refl, subst, sym, ap, ◌∙◌, arith, length, map, get_or, add-zero, add-one}
 use Rattle.std.specs.Prelude.{find, ◌==◌, All, Some}
 use Rattle.std.proofs.lemmas.Bool.{and_parts, eqb-true}
 use Rattle.cs_types.specs.declared.task.Task.{Task}
@@ -32,12 +32,6 @@ pub record MovedSoFar {Q : Type 0} {g : Ghosts Q} (Held : Type 0) (cpu count : �
 
 two_more : (n i : ℕ) → n + 2 * i + 2 ≡ n + 2 * (i + 1)
 two_more n i = omega arith
-
-plus_0 : (n : ℕ) → n + 0 ≡ n
-plus_0 n = omega arith
-
-plus_1 : (n : ℕ) → n + 1 ≡ suc n
-plus_1 n = omega arith
 
 one_stamp : (n i : ℕ) → n + suc i ≡ n + i + 1
 one_stamp n i = omega arith
@@ -143,8 +137,8 @@ module _ {Q : Type 0} {g : Ghosts Q} (cpu to : ℕ) (places : List ℕ) (core : 
         MovedSoFar (Unit {0}) cpu count (core, table) (then, now)
     first_moved zero within then now placed =
         let same : bare then ≡ bare core = placed.core ∙ (λ i. let before : BareCore = record (bare core) {
-          next_stamp = plus_0 core.next_stamp i;
-          task_number = plus_0 core.task_number i;
+          next_stamp = add-zero core.next_stamp i;
+          task_number = add-zero core.task_number i;
         } in before) in
         let agree : AgreeBy (Unit {0}) (core, table) = apart_of may.may.agree in
         subst (λ (now : Table). MovedSoFar (Unit {0}) cpu 0 (core, table) (then, now)) (sym placed.table) (none_yet then same (agree_by core then table agree same tt))
@@ -158,7 +152,7 @@ module _ {Q : Type 0} {g : Ghosts Q} (cpu to : ℕ) (places : List ℕ) (core : 
           task_number = two_touches core.task_number count i;
         } in after) in
         let places = one_placed before tasks (get_or pids count 0) cpu to (may_move count below (before, tasks) moved) (least_of core cpu) (least_of core to) refl refl then same now placed.table in
-        subst (λ n. MovedSoFar (Unit {0}) cpu n (core, table) (then, now)) (plus_1 count) (one_moved count below (before, tasks) moved (then, now) places)
+        subst (λ n. MovedSoFar (Unit {0}) cpu n (core, table) (then, now)) (add-one count) (one_moved count below (before, tasks) moved (then, now) places)
 
     -- where no more are told, all moved
     module _ {Held : Type 0} (count : ℕ) (beyond : length pids ≤ count) (most : count ≤ length pids) (now : Core Q g × Table) (moved : MovedSoFar Held cpu count (core, table) now) where

@@ -1,5 +1,5 @@
 -- Leaving: the tasks of a sibling move off it one after another, by rising stamp.
-use Rattle.std.proofs.Common.{◌≡◌, inl, inr, ℕ, ◌+◌, ◌<◌, ◌≤◌, Bool, true, false, cond, ltb, List, [], ◌∷◌, map, refl, sym, ap, ◌∙◌, length, get_or, arith, Some, ne_eqb}
+use Rattle.std.proofs.Common.{◌≡◌, inl, inr, ℕ, ◌+◌, ◌<◌, ◌≤◌, Bool, true, false, cond, ltb, List, [], ◌∷◌, map, refl, sym, ap, ◌∙◌, length, get_or, arith, Some, ne_eqb, option_map}
 use Rattle.std.specs.Prelude.{find, ◌&&◌, ◌==◌, Contains}
 use Rattle.std.specs.List.{AllByRecursion}
 use Rattle.std.proofs.Math.Bool.{and-false}
@@ -17,6 +17,7 @@ use Rattle.core_lanes.specs.Queued.{queued_among, mover_of, AreTold, count_befor
 use Rattle.core_lanes.proofs.Queues.{is_on}
 use Rattle.core_lanes.proofs.Counted.{few_queued}
 use Rattle.cpu_hotplug.proofs.Ranks.{fewer_before, same_stamp, length-movers, mover_at, rank_at}
+use Rattle.cs_types.proofs.Spots.{find-map}
 
 -- ---- how many move
 
@@ -82,20 +83,8 @@ some_keep_pid room cpu count task =
 -- a task is found by its pid as it is then
 pub found_then : (room : RoomState) (cpu count pid : ℕ) (tasks : List Task) (task : Task) → find (has_pid pid) tasks ≡ Some task →
     find (has_pid pid) (map (after_some room cpu count) tasks) ≡ Some (after_some room cpu count task)
-found_then room cpu count pid [] task found = absurd cc
-found_then room cpu count pid (first ∷ tasks) task found =
-    let rest = map (after_some room cpu count) tasks in
-    let then = after_some room cpu count first in
-    let same : has_pid pid then ≡ has_pid pid first = ap (λ n. n == pid) (some_keep_pid room cpu count first) in
-    elim (cases_Bool (has_pid pid first)) [
-      | inl here ↦
-          let is : Some first ≡ Some task = sym (cond-true (has_pid pid first) (Some first) (find (has_pid pid) tasks) here) ∙ found in
-          let first_is : first ≡ task = cc in
-          cond-true (has_pid pid then) (Some then) (find (has_pid pid) rest) (same ∙ here) ∙ ap (λ (t : Task). Some (after_some room cpu count t)) first_is
-      | inr past ↦
-          cond-false (has_pid pid then) (Some then) (find (has_pid pid) rest) (same ∙ past)
-          ∙ found_then room cpu count pid tasks task (sym (cond-false (has_pid pid first) (Some first) (find (has_pid pid) tasks) past) ∙ found)
-    ]
+found_then room cpu count pid tasks task found =
+    find-map (after_some room cpu count) (some_keep_pid room cpu count) pid tasks ∙ ap (option_map (after_some room cpu count)) found
 
 module _ (room : RoomState) (cpu : ℕ) where
   abbrev rank : Task → ℕ

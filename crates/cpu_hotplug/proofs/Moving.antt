@@ -9,7 +9,7 @@ use Rattle.std.proofs.lemmas.List.Sums.{sum_by-cons}
 use Rattle.std.proofs.lemmas.List.Elements.{All-map, All-weaker, All-from_recursion}
 use Rattle.cs_types.specs.declared.task.Task.{Task}
 use Rattle.cs_types.specs.declared.task.Policy.{Policy}
-use Rattle.cs_types.specs.declared.task.Policy.TheVariants.{Stop, Deadline, Fifo, Rr, Fair}
+use Rattle.cs_types.specs.declared.task.Policy.TheVariants.{Stop, Fair}
 use Rattle.cs_types.specs.declared.queue.Queued.{Queued}
 use Rattle.cs_types.specs.Order.{fair_class, class_of, is_fair}
 use Rattle.cs_types.specs.Queue.{queued_of, rank_by}
@@ -37,18 +37,12 @@ count_queued stamp (task ∷ tasks) =
 rank_moved : (policy : Policy) (deadline from to vtime : ℕ) →
     rank_by policy deadline (to + (vtime - from)) ≡ cond (class_of policy == fair_class) (to + (rank_by policy deadline vtime - from)) (rank_by policy deadline vtime)
 rank_moved Stop deadline from to vtime = refl
-rank_moved (Deadline relative) deadline from to vtime = refl
-rank_moved (Fifo priority) deadline from to vtime = refl
-rank_moved (Rr priority) deadline from to vtime = refl
-rank_moved (Fair nice) deadline from to vtime = refl
+rank_moved policy deadline from to vtime = refl
 
 -- a fair task that is not behind has no lower rank
 ahead_by : (policy : Policy) (deadline vtime least : ℕ) → ((class_of policy == fair_class) ≡ true → least ≤ vtime) → class_of policy ≡ fair_class → least ≤ rank_by policy deadline vtime
-ahead_by Stop deadline vtime least ahead is = absurd (omega (arith, is))
-ahead_by (Deadline relative) deadline vtime least ahead is = absurd (omega (arith, is))
-ahead_by (Fifo priority) deadline vtime least ahead is = absurd (omega (arith, is))
-ahead_by (Rr priority) deadline vtime least ahead is = absurd (omega (arith, is))
 ahead_by (Fair nice) deadline vtime least ahead is = ahead refl
+ahead_by policy deadline vtime least ahead is = absurd (omega (arith, is))
 
 pub none_behind : (least : ℕ) (tasks : List Task) → NoneBehind least tasks → All (λ (task : Queued). task.class ≡ fair_class → least ≤ task.rank) (map queued_of tasks)
 none_behind least tasks ahead =

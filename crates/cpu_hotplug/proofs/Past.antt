@@ -3,7 +3,7 @@ use Rattle.std.proofs.Common.{◌≡◌, ◌≢◌, ℕ, suc, ◌+◌, ◌<◌, 
 use Rattle.std.specs.Prelude.{find, count_by, Contains, IsTrue, ◌&&◌, ◌==◌}
 use Rattle.std.specs.List.{AllByRecursion}
 use Rattle.std.specs.Option.{option_map}
-use Rattle.std.proofs.lemmas.Bool.{cases_Bool, cond-true, cond-false, eqb-true, eq-eqb, and_parts}
+use Rattle.std.proofs.lemmas.Bool.{cases_Bool, cond-true, cond-false, eqb-true, eq-eqb, and_parts, ne_eqb}
 use Rattle.std.proofs.lemmas.List.Elements.{All-contains_itself, recursion_from_All}
 use Rattle.cs_types.specs.declared.task.Task.{Task}
 use Rattle.cs_types.specs.Room.{RoomState, has_pid, with_task, queued_on}
@@ -16,8 +16,8 @@ use Rattle.cs_types.proofs.Filtered.{each_found, Contains-filter_parts}
 use Rattle.cs_types.proofs.Spots.{find-map, replaced_by}
 use Rattle.task_table.specs.Table.{Rises, RisesFrom}
 use Rattle.core_lanes.specs.Queued.{queued_among, IsOf, HasOwnStamp, AreStamped}
-use Rattle.core_lanes.proofs.Queues.{is_on, is_of}
-use Rattle.core_lanes.proofs.Replaced.{past, was_of}
+use Rattle.core_lanes.proofs.Queues.{is_of, is_on}
+use Rattle.core_lanes.proofs.Replaced.{was_of}
 use Rattle.core_lanes.proofs.Stays.{found_in}
 use Rattle.cpu_hotplug.specs.Leaves.{IsQueuedAt}
 use Rattle.cpu_hotplug.proofs.Ranks.{each_of}
@@ -46,6 +46,13 @@ asleep task = record task { queued = false }
 
 abbrev pub aside : Task → List Task → List Task
 aside task tasks = map (replaced_by (asleep task)) tasks
+
+-- behind the place of its pid a task takes none
+past : (task : Task) (low : ℕ) (tasks : List Task) → task.spec.pid < low → RisesFrom low tasks → map (replaced_by task) tasks ≡ tasks
+past task low [] below rises = refl
+past task low (t ∷ tasks) below rises =
+    let apart : has_pid task.spec.pid t ≡ false = ne_eqb t.spec.pid task.spec.pid (λ e. omega (arith, e, below, rises.0)) in
+    λ i. cond-false (has_pid task.spec.pid t) task t apart i ∷ past task (t.spec.pid + 1) tasks (omega (arith, below, rises.0)) rises.1 i
 
 one_less_by : (b : Bool) (x : Task) (xs ys : List Task) → length xs ≡ suc (length ys) → length (cond b (x ∷ xs) xs) ≡ suc (length (cond b (x ∷ ys) ys))
 one_less_by true x xs ys less = ap suc less

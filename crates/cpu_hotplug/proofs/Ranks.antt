@@ -15,7 +15,7 @@ use Rattle.cs_types.specs.declared.task.Task.{Task}
 use Rattle.task_table.specs.Table.{Rises, RisesFrom}
 use Rattle.core_lanes.specs.Queued.{queued_among, mover_of, count_before, IsOf, AreStamped}
 use Rattle.core_lanes.proofs.Lists.{fewer, filter-map}
-use Rattle.core_lanes.proofs.Queues.{is_on, is_of}
+use Rattle.core_lanes.proofs.Queues.{is_of, is_on}
 
 -- ---- how many stamps are smaller
 

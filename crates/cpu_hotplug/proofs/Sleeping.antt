@@ -13,7 +13,7 @@ use Rattle.core_lanes.specs.Lanes.{Beside, lane_state, room_of, IsFit, Agree, Kn
 use Rattle.core_lanes.specs.Numbers.{Numbers, numbers_of, touched}
 use Rattle.core_lanes.specs.Changes.{Kept, Changes, Touches}
 use Rattle.core_lanes.proofs.Counted.{as_many_live}
-use Rattle.core_lanes.proofs.Queues.{is_on, off_elsewhere}
+use Rattle.core_lanes.proofs.Queues.{off_elsewhere, is_on}
 use Rattle.core_lanes.proofs.Replaced.{All-replaced}
 use Rattle.core_lanes.proofs.Stays.{some_beside, both_stay, found_in}
 use Rattle.cpu_hotplug.specs.Leaves.{NoneBehind, IsQueuedAt, MayMovePast}

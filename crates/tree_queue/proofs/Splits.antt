@@ -111,7 +111,7 @@ splits cpu task low (first ∷ tasks) rises there on =
           let is : first ≡ task = cc in
           let on_first : is_on cpu first ≡ true = ap (is_on cpu) is ∙ on in
           let at : first.spec.pid ≡ pid = eqb-true first.spec.pid pid here in
-          let none = others_none pid cpu (first.spec.pid + 1) tasks (omega (arith, at)) rises.1 in
+          let none = others_none pid cpu tasks (first.spec.pid + 1) (omega (arith, at)) rises.1 in
           let whole : queued_at (first ∷ tasks) cpu ≡ queued_of first ∷ queued_at tasks cpu =
           ap (map queued_of) (cond-true _ (first ∷ queued_among tasks cpu) (queued_among tasks cpu) on_first) in
           record {

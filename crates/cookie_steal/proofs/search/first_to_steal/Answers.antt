@@ -19,8 +19,8 @@ use Rattle.cookie_steal.proofs.Enumerated.{IsLeft, to_go, left_first, left_next,
 use Rattle.cookie_steal.proofs.Candidates.{candidates, candidate_parts, few_candidates, no_two_tie}
 use Rattle.cookie_steal.proofs.Counted.{first_asked, one_further}
 use Rattle.cookie_steal.proofs.search.first_to_steal.Given.{Over}
-use Rattle.cookie_steal.proofs.search.first_to_steal.Goals as goal
 use Rattle.cookie_steal.proofs.search.first_to_steal.Goals.{After-next_with-next}
+use Rattle.cookie_steal.proofs.search.first_to_steal.Goals as goal
 
 -- the first of those that the thief may take, as its siblings stand in the room
 from_room : (thief source : SiblingState) (idle from : SiblingState) (queued : List Task) → thief ≡ idle → source ≡ from →

@@ -1,4 +1,4 @@
-use Rattle.std.proofs.Common.{arith, ap, ◌∙◌, sym, ◌≡◌, Bool, true, false, refl}
+use Rattle.std.proofs.Common.{arith, ap, ◌∙◌, sym, ◌≡◌, true, false, refl}
 use Rattle.std.specs.Prelude.{not, ◌&&◌, ◌==◌, Option, None, Some, is_none}
 use Rattle.std.specs.Option.{option_map}
 use Rattle.cs_types.specs.declared.task.Task.{Task}
@@ -8,23 +8,20 @@ use Rattle.cs_types.specs.Selection.{first_on}
 use Rattle.core_lanes.specs.Lanes.{room_of}
 use Rattle.core_lanes.proofs.Stays.{lane_at}
 use Rattle.core_lanes.proofs.Counted.{of_one}
-use Rattle.cookie_steal.proofs.steal.is_left_idle.Goals as goal
 use Rattle.cookie_steal.proofs.steal.is_left_idle.Goals.{then-is_none, else-is_none}
+use Rattle.std.proofs.Math.Bool.{not-not}
+use Rattle.cookie_steal.proofs.steal.is_left_idle.Goals as goal
 
 -- a queue has none where there is none
 none_queued : (first : Option Task) → is_none (option_map queued_of first) ≡ is_none first
 none_queued None = refl
 none_queued (Some task) = refl
 
-twice : (b : Bool) → not (not b) ≡ b
-twice true = refl
-twice false = refl
-
 pub returns-then-is_none-2-clause-idle : goal.returns-then-is_none-2-clause-idle
 returns-then-is_none-2-clause-idle g c beside =
     let room = room_of beside (c.args.core.now, c.args.table.now) in
     let empty : is_none (first_on room c.args.cpu) ≡ c.is_none.result =
-    sym (none_queued (first_on room c.args.cpu)) ∙ ap is_none (sym (c.first_on.ensures.first beside)) ∙ ap not c.is_none.ensures ∙ twice c.is_none.result in
+    sym (none_queued (first_on room c.args.cpu)) ∙ ap is_none (sym (c.first_on.ensures.first beside)) ∙ ap not c.is_none.ensures ∙ not-not c.is_none.result in
     elim c.if-is_none.branch [
       | then-is_none w ↦
           let at = lane_at c.args.core.now.lanes.items c.args.cpu w.index.result.now c.requires.cpu w.index.ensures in
@@ -39,7 +36,7 @@ pub returns-else-is_none-2-clause-idle : goal.returns-else-is_none-2-clause-idle
 returns-else-is_none-2-clause-idle g c beside =
     let room = room_of beside (c.args.core.now, c.args.table.now) in
     let empty : is_none (first_on room c.args.cpu) ≡ c.is_none.result =
-    sym (none_queued (first_on room c.args.cpu)) ∙ ap is_none (sym (c.first_on.ensures.first beside)) ∙ ap not c.is_none.ensures ∙ twice c.is_none.result in
+    sym (none_queued (first_on room c.args.cpu)) ∙ ap is_none (sym (c.first_on.ensures.first beside)) ∙ ap not c.is_none.ensures ∙ not-not c.is_none.result in
     elim c.if-is_none.branch [
       | then-is_none w ↦
           let at = lane_at c.args.core.now.lanes.items c.args.cpu w.index.result.now c.requires.cpu w.index.ensures in

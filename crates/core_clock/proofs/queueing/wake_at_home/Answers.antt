@@ -4,7 +4,7 @@ use Rattle.cs_types.specs.declared.task.Task.{Task}
 use Rattle.cs_types.specs.Scenario.{IsPolicy}
 use Rattle.cs_types.specs.Room.{RoomState, flag, has_pid}
 use Rattle.cs_types.specs.declared.task.Policy.{Policy}
-use Rattle.cs_types.specs.declared.task.Policy.TheVariants.{Stop, Deadline, Fifo, Rr, Fair}
+use Rattle.cs_types.specs.declared.task.Policy.TheVariants.{Stop}
 use Rattle.cs_types.specs.Queueing.{enqueue, preempts, refreshed, refreshed_by}
 use Rattle.core_lanes.specs.Lanes.{at, room_of}
 use Rattle.core_lanes.proofs.Stays.{both_stay, some_beside}
@@ -17,10 +17,7 @@ use Rattle.core_clock.proofs.queueing.wake_at_home.Goals as goal
 -- a task that is refreshed is the same but for its times
 refreshed_keeps : (room : RoomState) (policy : Policy) (task : Task) → let fresh = refreshed_by room policy task in fresh ≡ record task { vtime = fresh.vtime; deadline = fresh.deadline }
 refreshed_keeps room Stop task = refl
-refreshed_keeps room (Deadline relative) task = refl
-refreshed_keeps room (Fifo priority) task = refl
-refreshed_keeps room (Rr priority) task = refl
-refreshed_keeps room (Fair nice) task = refl
+refreshed_keeps room policy task = refl
 
 abbrev Keeps : Task → Task → Type 0
 Keeps old new = new ≡ record old { vtime = new.vtime; deadline = new.deadline }

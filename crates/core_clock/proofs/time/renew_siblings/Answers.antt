@@ -1,6 +1,5 @@
 use Rattle.std.proofs.Common.{◌≡◌, ℕ, ◌+◌, ◌<◌, ◌∙◌, ap, sym, refl, length, map, arith, Some, None, ◌≤◌, subst, get_or}
-use Rattle.std.specs.Prelude.{List}
-use Rattle.std.proofs.lemmas.List.{map-set, length-set, length-map}
+use Rattle.std.proofs.lemmas.List.{length-map, length-set}
 use Rattle.cs_types.specs.Room.{RoomState, SiblingState, absent, sibling_of, with_sibling}
 use Rattle.core_lanes.specs.declared.queue.SiblingQueue.{Ghosts}
 use Rattle.core_lanes.specs.declared.lane.Lane.{Lane}
@@ -9,7 +8,7 @@ use Rattle.core_lanes.specs.Lanes.{lane_state, room_of}
 use Rattle.core_lanes.specs.Changes.{Kept, Changes}
 use Rattle.core_lanes.specs.Comparisons.{ComparesFor}
 use Rattle.task_table.specs.Table.{Table}
-use Rattle.core_lanes.proofs.Stays.{some_beside, policies_of, lane_at, numbers_kept, queues_kept, alike_stays}
+use Rattle.core_lanes.proofs.Stays.{some_beside, policies_of, lane_at, changes_sibling}
 use Rattle.core_lanes.proofs.Counted.{of_one, and_then}
 use Rattle.core_clock.proofs.Clocks.{renewed_is, renewed_first, renewed_next, renewed_more, renewed_all, with_renewed}
 use Rattle.core_clock.proofs.Changes.{held_at, both_change, changes_as}
@@ -76,29 +75,19 @@ loop-cpu-preserved g c =
           let after = record lane { ran = lane.ran + c.args.delta; least = w.raise.new.least } in
           record {
             changes = subst (λ (new : cores). Changes old (new, c.args.table.now) (renewed_first c.args.delta (cpu + 1))) (sym w.core-is)
-                (more_renewed old mid _ c.args.delta cpu below c.loop-cpu.invariant.changes (record {
-                  room = λ beside.
-                      let room = room_of beside mid in
-                      ap (λ (siblings : List SiblingState). let now : RoomState = record room { siblings = siblings } in now) (map-set lane_state lanes cpu after)
-                      ∙ ap (λ (n : ℕ). with_sibling room cpu (let now : SiblingState = record (lane_state lane) { ran = lane.ran + c.args.delta; least = n } in now)) w.raise.ensures
-                      ∙ renewed_is c.args.delta room cpu (lane_state lane) (Some w.in-Some.smallest) here (sym w.in-Some.is ∙ c.smallest_vtime.ensures.answer);
-                  numbers = rw (numbers_kept lanes cpu lane after is refl) refl;
-                  stays = alike_stays _ _ (queues_kept lanes cpu lane after is refl) refl refl;
-                }));
+                (more_renewed old mid _ c.args.delta cpu below c.loop-cpu.invariant.changes (changes_as (λ beside.
+                let room = room_of beside mid in
+                ap (λ (n : ℕ). with_sibling room cpu (let now : SiblingState = record (lane_state lane) { ran = lane.ran + c.args.delta; least = n } in now)) w.raise.ensures
+                ∙ renewed_is c.args.delta room cpu (lane_state lane) (Some w.in-Some.smallest) here (sym w.in-Some.is ∙ c.smallest_vtime.ensures.answer))
+                (changes_sibling c.loop-cpu.core _ c.args.table.now cpu lane after (λ _. lane_state after) inside is refl refl refl refl refl)));
             counted = counted;
           }
       | in_default w ↦
           let after = record lane { ran = lane.ran + c.args.delta } in
           record {
             changes = subst (λ (new : cores). Changes old (new, c.args.table.now) (renewed_first c.args.delta (cpu + 1))) (sym w.core-is)
-                (more_renewed old mid _ c.args.delta cpu below c.loop-cpu.invariant.changes (record {
-                  room = λ beside.
-                      let room = room_of beside mid in
-                      ap (λ (siblings : List SiblingState). let now : RoomState = record room { siblings = siblings } in now) (map-set lane_state lanes cpu after)
-                      ∙ renewed_is c.args.delta room cpu (lane_state lane) None here (sym w.in_default.is ∙ c.smallest_vtime.ensures.answer);
-                  numbers = rw (numbers_kept lanes cpu lane after is refl) refl;
-                  stays = alike_stays _ _ (queues_kept lanes cpu lane after is refl) refl refl;
-                }));
+                (more_renewed old mid _ c.args.delta cpu below c.loop-cpu.invariant.changes (changes_as (λ beside. renewed_is c.args.delta (room_of beside mid) cpu (lane_state lane) None here (sym w.in_default.is ∙ c.smallest_vtime.ensures.answer))
+                (changes_sibling c.loop-cpu.core _ c.args.table.now cpu lane after (λ _. lane_state after) inside is refl refl refl refl refl)));
             counted = counted;
           }
     ]

@@ -6,12 +6,9 @@ use Rattle.cs_types.specs.Room.{RoomState, flag, running_on}
 use Rattle.cs_types.specs.Accounting.{charge}
 use Rattle.cs_types.specs.Time.{begin_slice, asks_at_tick}
 use Rattle.cs_types.specs.Step.{tick}
-use Rattle.task_table.specs.Table.{Table}
-use Rattle.core_lanes.specs.declared.queue.SiblingQueue.{Ghosts}
-use Rattle.core_lanes.specs.declared.lanes.Core.{Core}
 use Rattle.core_lanes.specs.Lanes.{Beside, at, beside_after, room_of, BareCore}
 use Rattle.core_lanes.specs.Numbers.{booked, with_ended, numbers_in}
-use Rattle.core_lanes.proofs.Stays.{both_stay}
+use Rattle.core_lanes.proofs.Stays.{both_stay, stands}
 use Rattle.core_lanes.proofs.Counted.{as_many_live}
 use Rattle.core_clock.proofs.Changes.{still_below}
 use Rattle.core_clock.proofs.time.tick.Goals as goal
@@ -43,10 +40,6 @@ begin_slice-requires g c = record {
 
 pub flag-requires : goal.flag-requires
 flag-requires g c = still_below (both_stay c.charge.ensures.charges.stays (c.begin_slice.ensures.changes c.args.cpu c.in-Some.task.now c.in-Some.ensures.there (record { slice = c.has_used_slice-used.ensures; peers = c.rotates-rotates.ensures.rotates })).stays) c.requires.at.cpu
-
--- a core and its table stand for a room of which they have all but what is beside them
-stands : {Q : Type 0} {g : Ghosts Q} (beside : Beside) (both : Core Q g × Table) (room : RoomState) → room_of beside both ≡ room → room_of (beside_after beside room) both ≡ room
-stands beside both room is = subst (λ (r : RoomState). room_of (beside_after beside r) both ≡ r) is refl
 
 pub returns-in_default-clause-ticks : goal.returns-in_default-clause-ticks
 returns-in_default-clause-ticks g c =

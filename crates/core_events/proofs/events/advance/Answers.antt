@@ -8,9 +8,8 @@ use Rattle.cs_types.proofs.Timely.{IsTimelyTask, IsTimelySibling}
 use Rattle.core_lanes.specs.Lanes.{lane_state, room_of, at}
 use Rattle.core_lanes.specs.Numbers.{with_ended}
 use Rattle.core_tasks.specs.State.{beside_of, room_with, state_numbers}
-use Rattle.core_tasks.proofs.States.{uncharged, lifted, both_stay}
+use Rattle.core_tasks.proofs.States.{uncharged, lifted, untouched, both_stay}
 use Rattle.core_events.proofs.Readies.{low_times}
-use Rattle.core_events.proofs.Onlines.{untouched}
 use Rattle.core_events.proofs.Compared.{for_event}
 use Rattle.core_events.proofs.events.advance.Goals as goal
 

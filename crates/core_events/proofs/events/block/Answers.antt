@@ -12,17 +12,17 @@ use Rattle.core_lanes.specs.Lanes.{BareCore, AreLow, beside_after, room_of, bare
 use Rattle.core_lanes.specs.Numbers.{Numbers, booked, took, touched, with_ended}
 use Rattle.core_lanes.proofs.Stays.{both_stay, found_in, some_beside}
 use Rattle.core_tasks.specs.State.{both, beside_of, room_with, state_numbers}
-use Rattle.core_tasks.proofs.States.{once_charged, lifted, leaves_all}
-use Rattle.core_events.proofs.Onlines.{there_too, untouched, when_running, when_offline}
+use Rattle.core_tasks.proofs.States.{once_charged, lifted, leaves_all, untouched}
+use Rattle.core_events.proofs.Onlines.{there_too, when_running, when_offline}
 use Rattle.core_events.proofs.Sleeps.{took-touched}
 use Rattle.core_events.proofs.Lows.{HasLow, low_idled, low_dequeued}
 use Rattle.core_events.proofs.Readies.{low_times, may_pick, may_touch_after, picked_charged}
 use Rattle.core_clock.proofs.Changes.{still_below}
-use Rattle.core_events.proofs.events.block.Goals as goal
 use Rattle.task_table.specs.Table.{Table}
 use Rattle.core_lanes.proofs.Counted.{later, and_then, no_more_live}
 use Rattle.core_events.proofs.Compared.{schedule_after, for_event, as_many_siblings}
 use Rattle.core_lanes.specs.Queued.{IsOf}
+use Rattle.core_events.proofs.events.block.Goals as goal
 
 pub run_idle-requires : goal.run_idle-requires
 run_idle-requires g c =

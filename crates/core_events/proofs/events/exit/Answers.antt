@@ -8,16 +8,14 @@ use Rattle.cs_types.specs.Step.{Stepped, run_idle, exit, without, has_threads, p
 use Rattle.cs_types.proofs.Accounts.{now-charge}
 use Rattle.core_lanes.specs.Lanes.{BareCore, AreLow, room_of, bare}
 use Rattle.core_lanes.specs.Numbers.{Numbers, booked, took, touched, with_ended}
-use Rattle.core_lanes.proofs.Stays as core
 use Rattle.std.proofs.lemmas.Bool.{cond-true, cond-false}
 use Rattle.core_tasks.specs.State.{both, beside_of, room_with, state_numbers}
-use Rattle.core_tasks.proofs.States.{once_charged, lifted, both_stay, leaves_all}
-use Rattle.core_events.proofs.Onlines.{there_too, untouched, when_running, when_offline}
+use Rattle.core_tasks.proofs.States.{once_charged, lifted, leaves_all, untouched, both_stay}
+use Rattle.core_events.proofs.Onlines.{there_too, when_running, when_offline}
 use Rattle.core_events.proofs.Sleeps.{took-touched}
 use Rattle.core_events.proofs.Lows.{HasLow, low_idled, low_without}
 use Rattle.core_events.proofs.Readies.{low_times, may_pick, may_touch_after, picked_charged}
 use Rattle.core_clock.proofs.Changes.{still_below}
-use Rattle.core_events.proofs.events.exit.Goals as goal
 use Rattle.task_table.specs.Table.{Table}
 use Rattle.cs_types.specs.declared.task.Task.{Task}
 use Rattle.std.proofs.lemmas.List.Filters.{length-filter_both}
@@ -25,6 +23,8 @@ use Rattle.std.specs.Prelude.{not}
 use Rattle.core_lanes.proofs.Counted.{later, and_then, no_more_live}
 use Rattle.core_events.proofs.Compared.{schedule_after, for_event, as_many_siblings}
 use Rattle.core_lanes.specs.Queued.{IsOf}
+use Rattle.core_lanes.proofs.Stays as core
+use Rattle.core_events.proofs.events.exit.Goals as goal
 
 pub run_idle-requires : goal.run_idle-requires
 run_idle-requires g c = subst (λ n. c.args.cpu < n) (sym c.end.ensures.touches.stays.siblings) (still_below c.charge.ensures.charges.stays c.requires.cpu)

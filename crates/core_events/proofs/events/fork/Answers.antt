@@ -10,14 +10,13 @@ use Rattle.cs_types.specs.Step.{Stepped, fork, child_at_home, child_of, with_chi
 use Rattle.core_lanes.specs.Numbers.{Numbers, touched, with_ended}
 use Rattle.core_lanes.proofs.Stays.{some_beside}
 use Rattle.core_tasks.specs.State.{beside_of, both, room_with, state_numbers}
-use Rattle.core_tasks.proofs.States.{uncharged, lifted, both_stay, leaves_all}
+use Rattle.core_tasks.proofs.States.{uncharged, lifted, leaves_all, untouched, both_stay}
 use Rattle.core_tasks.proofs.Known.{fits_found}
 use Rattle.core_events.proofs.Wakes.{may_wake}
 use Rattle.cs_types.specs.declared.event.Event.TheVariants.{Fork}
 use Rattle.cs_types.specs.declared.reply.Errno.TheVariants.{Eagain}
 use Rattle.core_tasks.specs.declared.state.State.{State}
 use Rattle.core_tasks.specs.Steps.{Makes}
-use Rattle.core_events.proofs.Onlines.{untouched}
 use Rattle.cs_types.proofs.Inserted.{length-inserted}
 use Rattle.core_events.proofs.events.fork.Goals as goal
 

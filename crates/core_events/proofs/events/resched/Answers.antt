@@ -8,8 +8,8 @@ use Rattle.core_lanes.specs.Numbers.{booked, took, is_fresh_by}
 use Rattle.core_tasks.specs.declared.state.State.{State}
 use Rattle.core_tasks.specs.State.{both, beside_of, room_with, state_numbers}
 use Rattle.core_tasks.specs.Steps.{MakesStep, Makes}
-use Rattle.core_tasks.proofs.States.{lifted, leaves_all}
-use Rattle.core_events.proofs.Onlines.{untouched, when_online, when_offline}
+use Rattle.core_tasks.proofs.States.{lifted, leaves_all, untouched}
+use Rattle.core_events.proofs.Onlines.{when_online, when_offline}
 use Rattle.core_events.proofs.Sleeps.{took-resched}
 use Rattle.core_events.proofs.Readies.{may_schedule, same_schedule}
 use Rattle.core_events.proofs.Compared.{schedule_calls, for_event}

@@ -7,8 +7,7 @@ use Rattle.cs_types.specs.Touches.{policy_touches}
 use Rattle.core_lanes.specs.Lanes.{Knows, KnowsApart}
 use Rattle.core_lanes.specs.Numbers.{Numbers, with_ended}
 use Rattle.core_tasks.specs.State.{beside_of, both, room_with, state_numbers}
-use Rattle.core_tasks.proofs.States.{uncharged, lifted, leaves_all}
-use Rattle.core_events.proofs.Onlines.{untouched}
+use Rattle.core_tasks.proofs.States.{uncharged, lifted, leaves_all, untouched}
 use Rattle.core_tasks.proofs.Known.{fits_found, knows_as}
 use Rattle.cs_types.specs.declared.event.Event.TheVariants.{SetSched}
 use Rattle.cs_types.specs.declared.reply.Reply.TheVariants.{NoTask}

@@ -6,8 +6,8 @@ use Rattle.cs_types.specs.Step.{tick}
 use Rattle.core_lanes.specs.Numbers.{booked}
 use Rattle.core_tasks.specs.State.{beside_of, room_with, state_numbers}
 use Rattle.core_tasks.specs.Steps.{MakesStep}
-use Rattle.core_tasks.proofs.States.{lifted, leaves_all}
-use Rattle.core_events.proofs.Onlines.{untouched, when_online, when_offline}
+use Rattle.core_tasks.proofs.States.{lifted, leaves_all, untouched}
+use Rattle.core_events.proofs.Onlines.{when_online, when_offline}
 use Rattle.core_events.proofs.Compared.{for_event}
 use Rattle.core_events.proofs.events.tick.Goals as goal
 

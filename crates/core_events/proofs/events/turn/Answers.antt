@@ -10,8 +10,8 @@ use Rattle.core_lanes.specs.Numbers.{booked, is_fresh_by, with_ended}
 use Rattle.core_lanes.proofs.Stays.{lane_at}
 use Rattle.core_tasks.specs.State.{beside_of, room_with, state_numbers}
 use Rattle.core_tasks.specs.Steps.{numbers_after}
-use Rattle.core_tasks.proofs.States.{uncharged, lifted, leaves_all}
-use Rattle.core_events.proofs.Onlines.{untouched, when_online, when_offline}
+use Rattle.core_tasks.proofs.States.{uncharged, lifted, leaves_all, untouched}
+use Rattle.core_events.proofs.Onlines.{when_online, when_offline}
 use Rattle.core_events.proofs.Readies.{low_times, turn_as_resched, turn_touches}
 use Rattle.std.proofs.Math.Nat.{mul-le-mul_right, le-max_left, le-max_right}
 use Rattle.core_events.proofs.Compared.{for_event}

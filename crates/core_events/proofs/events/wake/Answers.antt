@@ -10,12 +10,11 @@ use Rattle.cs_types.proofs.Tasks.{found_again}
 use Rattle.core_lanes.specs.Lanes.{room_of}
 use Rattle.core_lanes.proofs.Stays.{found_in, some_beside}
 use Rattle.core_tasks.specs.State.{beside_of, both, room_with, state_numbers}
-use Rattle.core_tasks.proofs.States.{uncharged, lifted, leaves_all}
+use Rattle.core_tasks.proofs.States.{uncharged, lifted, leaves_all, untouched}
 use Rattle.core_events.proofs.Readies.{low_times}
 use Rattle.core_tasks.proofs.Known.{fits_found}
 use Rattle.core_events.proofs.Wakes.{may_wake}
 use Rattle.cs_types.specs.declared.event.Event.TheVariants.{Wake}
-use Rattle.core_events.proofs.Onlines.{untouched}
 use Rattle.core_lanes.specs.Numbers.{with_ended}
 use Rattle.core_events.proofs.Compared.{for_event}
 use Rattle.core_events.proofs.events.wake.Goals as goal

@@ -11,8 +11,8 @@ use Rattle.core_lanes.specs.Lanes.{lane_state, room_of}
 use Rattle.core_lanes.specs.Account.{charged_at}
 use Rattle.core_lanes.proofs.Accounts.{charged_each, charged_more}
 use Rattle.core_lanes.proofs.account.note_charged.Given.{Over}
-use Rattle.core_lanes.proofs.account.note_charged.Goals as goal
 use Rattle.core_lanes.proofs.account.note_charged.Goals.{in-Some, in_default}
+use Rattle.core_lanes.proofs.account.note_charged.Goals as goal
 
 -- a task with the pid lives
 abbrev Lives : List Task → ℕ → Type 0

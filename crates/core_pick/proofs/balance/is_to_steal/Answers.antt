@@ -5,8 +5,8 @@ use Rattle.cs_types.specs.Room.{SiblingState, sibling_of}
 use Rattle.cs_types.specs.Selection.{first_on}
 use Rattle.core_lanes.specs.Lanes.{room_of}
 use Rattle.core_lanes.proofs.Stays.{lane_at}
-use Rattle.core_pick.proofs.balance.is_to_steal.Goals as goal
 use Rattle.core_pick.proofs.balance.is_to_steal.Goals.{then-count-ne0, else-count-ne0, then-is_none, else-is_none}
+use Rattle.core_pick.proofs.balance.is_to_steal.Goals as goal
 
 pub returns-then-core-ne0 : goal.returns-then-core-ne0
 returns-then-core-ne0 g c beside =

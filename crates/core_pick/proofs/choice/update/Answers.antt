@@ -15,8 +15,8 @@ use Rattle.core_pick.specs.Choice.{IsPlan, choice_of, run_of, kept_in_selection,
 use Rattle.core_pick.proofs.Remembered.{hits, remembering, map-remembering_none, map-remembering_more, map-remembering_same, map-remembering_all}
 use Rattle.core_lanes.proofs.Lists.{placed_at, placed_more}
 use Rattle.core_pick.proofs.Choices.{at_number, run_of-choice_of}
-use Rattle.core_pick.proofs.choice.update.Goals as goal
 use Rattle.core_pick.proofs.choice.update.Goals.{then-lane, else-lane}
+use Rattle.core_pick.proofs.choice.update.Goals as goal
 
 -- the number of a sibling fits a byte, and its choice the memory
 number_fits : (cpu count : ℕ) → cpu < count → count ≤ 16 → Fits w8 cpu

@@ -6,7 +6,7 @@ use Rattle.cs_types.specs.Room.{SiblingState}
 use Rattle.cs_types.specs.Selection.{running}
 use Rattle.core_lanes.specs.Lanes.{at, lane_state, room_of}
 use Rattle.core_lanes.specs.Numbers.{numbers_of}
-use Rattle.core_lanes.proofs.Stays.{lane_at, number_of, queue_of, queues_kept, alike_stays}
+use Rattle.core_lanes.proofs.Stays.{lane_at, queues_kept, alike_stays, number_of, queue_of}
 use Rattle.core_pick.proofs.pick.adopt.Goals as goal
 
 pub returns : goal.returns

@@ -9,9 +9,9 @@ use Rattle.core_lanes.specs.Lanes.{Beside, BareCore, bare, AreLow, at, beside_af
 use Rattle.core_lanes.specs.Numbers.{Numbers, numbers_of, numbers_in, with_ended, booked, took}
 use Rattle.core_pick.specs.Schedules.{may_adopt_by}
 use Rattle.core_lanes.specs.Changes.{Kept}
-use Rattle.core_lanes.proofs.Stays.{both_stay}
+use Rattle.core_lanes.proofs.Stays.{both_stay, stands}
 use Rattle.core_pick.specs.Comparisons.{most_of_schedule}
-use Rattle.core_pick.proofs.Cases.{ChargesAndSchedules-same, is_adopted, is_not_adopted, stands}
+use Rattle.core_pick.proofs.Cases.{ChargesAndSchedules-same, is_adopted, is_not_adopted}
 use Rattle.core_pick.proofs.pick.adopt_or_pick_anew.Goals as goal
 
 pub pick_anew-requires : goal.pick_anew-requires

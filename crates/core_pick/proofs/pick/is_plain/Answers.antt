@@ -1,5 +1,4 @@
-use Rattle.std.proofs.Common.{◌∙◌, ap}
-use Rattle.std.specs.Prelude.{◌&&◌, ◌==◌}
+use Rattle.std.proofs.Common.{◌∙◌, ap, ◌&&◌, ◌==◌}
 use Rattle.core_pick.specs.declared.lead.First.{First}
 use Rattle.core_pick.proofs.pick.is_plain.Goals as goal
 

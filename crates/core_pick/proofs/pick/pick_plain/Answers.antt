@@ -8,7 +8,7 @@ use Rattle.cs_types.specs.Order.{fair_class}
 use Rattle.cs_types.specs.Selection.{pid_of, first_on, is_fair_task, running}
 use Rattle.core_lanes.specs.Lanes.{at, lane_state, room_of}
 use Rattle.core_lanes.specs.Numbers.{Numbers, numbers_of, touched}
-use Rattle.core_lanes.proofs.Stays.{lane_at, number_of, queue_of, numbers_kept, queues_kept, alike_stays, both_stay}
+use Rattle.core_lanes.proofs.Stays.{lane_at, numbers_kept, queues_kept, alike_stays, both_stay, number_of, queue_of}
 use Rattle.core_pick.specs.declared.lead.First.{First}
 use Rattle.core_pick.specs.Choice.{run_of}
 use Rattle.core_pick.proofs.Choices.{run_of-choice_of, is_fair-choice_of}

@@ -11,7 +11,7 @@ use Rattle.core_lanes.specs.declared.lane.Lane.{Lane}
 use Rattle.core_lanes.specs.Lanes.{at, lane_state, room_of}
 use Rattle.core_lanes.specs.Numbers.{Numbers, numbers_of, touched}
 use Rattle.core_lanes.specs.Changes.{Kept}
-use Rattle.core_lanes.proofs.Stays.{number_of, queues_kept, alike_stays, both_stay}
+use Rattle.core_lanes.proofs.Stays.{queues_kept, alike_stays, both_stay, number_of}
 use Rattle.core_pick.proofs.pick.select.Goals as goal
 
 pub select_for-run-requires : goal.select_for-run-requires

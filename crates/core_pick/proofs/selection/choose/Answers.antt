@@ -14,8 +14,8 @@ use Rattle.core_pick.specs.Choice.{choice_of, gets_none, gets_task}
 use Rattle.core_pick.proofs.Asked.{one_more}
 use Rattle.core_pick.proofs.Choices.{at_number, map-enumerate_from, count_more, few_counted, all_forced, all_occupied}
 use Rattle.core_pick.proofs.selection.choose.Given.{Over}
-use Rattle.core_pick.proofs.selection.choose.Goals as goal
 use Rattle.core_pick.proofs.selection.choose.Goals.{Start}
+use Rattle.core_pick.proofs.selection.choose.Goals as goal
 
 -- what a read past the last would give
 abbrev no_choice : Choice

@@ -3,7 +3,7 @@ use Rattle.std.specs.Prelude.{Option, None, Some, IfSome}
 use Rattle.std.specs.Option.{option_map}
 use Rattle.cs_types.specs.declared.queue.Queued.{Queued}
 use Rattle.cs_types.specs.declared.task.Policy.{Policy}
-use Rattle.cs_types.specs.declared.task.Policy.TheVariants.{Stop, Deadline, Fifo, Rr, Fair}
+use Rattle.cs_types.specs.declared.task.Policy.TheVariants.{Fair}
 use Rattle.cs_types.specs.declared.task.Task.{Task}
 use Rattle.cs_types.specs.Room.{SiblingState}
 use Rattle.cs_types.specs.Order.{fair_class, class_of}
@@ -19,11 +19,8 @@ use Rattle.core_pick.proofs.selection.first_at.Goals as goal
 
 -- the rank of a fair task is its virtual time
 fair_rank : (policy : Policy) (deadline vtime : ℕ) → vtime < 2 ^ 100 → class_of policy ≡ fair_class → rank_by policy deadline vtime < 2 ^ 100
-fair_rank Stop deadline vtime low fair = absurd (omega (arith, fair))
-fair_rank (Deadline relative) deadline vtime low fair = absurd (omega (arith, fair))
-fair_rank (Fifo priority) deadline vtime low fair = absurd (omega (arith, fair))
-fair_rank (Rr priority) deadline vtime low fair = absurd (omega (arith, fair))
 fair_rank (Fair nice) deadline vtime low fair = low
+fair_rank policy deadline vtime low fair = absurd (omega (arith, fair))
 
 -- so it is low in the queue of a task whose virtual time is
 low_rank : (first : Option Task) → IfSome first (λ task. task.vtime < 2 ^ 100) →

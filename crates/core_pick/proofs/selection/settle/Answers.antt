@@ -15,8 +15,8 @@ use Rattle.core_pick.specs.declared.choice.Counts.{Counts}
 use Rattle.core_pick.specs.Choice.{choice_of}
 use Rattle.core_pick.proofs.Choices.{is_idle, is_kept, choice_kept, choice_searched, nothing_there, counted_nothing, counted_forced, counted_task}
 use Rattle.core_pick.proofs.selection.settle.Given.{Over}
-use Rattle.core_pick.proofs.selection.settle.Goals as goal
 use Rattle.core_pick.proofs.selection.settle.Goals.{After-search_on}
+use Rattle.core_pick.proofs.selection.settle.Goals as goal
 
 -- the test of a choice is that of its task
 tested : (task : Option Task) (given : Choice) (test b : Bool) → given ≡ choice_of task → test ≡ (given.class == idle_class) → test ≡ b → is_none task ≡ b

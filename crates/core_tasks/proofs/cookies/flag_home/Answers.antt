@@ -1,4 +1,4 @@
-use Rattle.std.proofs.Common.{◌≡◌, ◌<◌, ◌∙◌, ℕ, Bool, true, false, refl, ap, sym, map, List, length, get_or, set, Some, arith}
+use Rattle.std.proofs.Common.{◌≡◌, ◌<◌, ◌∙◌, ℕ, Bool, true, refl, ap, sym, map, List, length, get_or, set, Some, arith}
 use Rattle.std.specs.Prelude.{◌||◌}
 use Rattle.std.proofs.lemmas.List.{map-set, length-map, get_or-map}
 use Rattle.std.proofs.Math.Seq.{map-set_same}
@@ -10,15 +10,8 @@ use Rattle.core_lanes.specs.Changes.{ChangesLanes}
 use Rattle.core_lanes.proofs.Stays.{number_of, queue_of}
 use Rattle.core_tasks.specs.Cookies.{flagged_for, RunsAtMostAt}
 use Rattle.core_tasks.proofs.Runners.{changed_at, flagged_nothing}
+use Rattle.std.proofs.Math.Bool.{or-true, or-false}
 use Rattle.core_tasks.proofs.cookies.flag_home.Goals as goal
-
-or_true : (b : Bool) → true ≡ (b || true)
-or_true true = refl
-or_true false = refl
-
-or_false : (b : Bool) → b ≡ (b || false)
-or_false true = refl
-or_false false = refl
 
 -- where the home is pending as it is to be, so are all
 module _ {Q : Type 0} (lanes : List (Lane Q)) (home pid : ℕ) (lane : Lane Q) (within : home < length lanes)
@@ -45,11 +38,11 @@ returns-then-runs g c =
     let lanes = c.args.lanes.now in
     let now = get_or lanes c.args.home c.index-lanes-home.result in
     flagged lanes c.args.home c.args.pid c.index-lanes-home.result c.requires.home c.requires.alone true
-    (or_true now.pending ∙ ap (λ b. now.pending || b) (sym c.if-runs.true ∙ c.runs.ensures))
+    (sym (or-true now.pending) ∙ ap (λ b. now.pending || b) (sym c.if-runs.true ∙ c.runs.ensures))
 
 pub returns-else-runs : goal.returns-else-runs
 returns-else-runs g c =
     let lanes = c.args.lanes.now in
     let now = get_or lanes c.args.home c.index-lanes-home.result in
     flagged lanes c.args.home c.args.pid c.index-lanes-home.result c.requires.home c.requires.alone now.pending
-    (or_false now.pending ∙ ap (λ b. now.pending || b) (sym c.if-runs.false ∙ c.runs.ensures))
+    (sym (or-false now.pending) ∙ ap (λ b. now.pending || b) (sym c.if-runs.false ∙ c.runs.ensures))

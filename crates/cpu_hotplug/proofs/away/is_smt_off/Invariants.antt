@@ -1,5 +1,4 @@
-use Rattle.std.proofs.Common.{◌≡◌, ◌<◌, take, length}
-use Rattle.std.specs.Prelude.{filter}
+use Rattle.std.proofs.Common.{◌≡◌, ◌<◌, take, length, filter}
 use Rattle.cpu_hotplug.proofs.away.is_smt_off.Given as goal
 
 abbrev pub invariant-loop-lane : goal.invariant-loop-lane

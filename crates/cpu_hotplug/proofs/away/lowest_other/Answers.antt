@@ -1,4 +1,4 @@
-use Rattle.std.proofs.Common.{◌≡◌, ◌<◌, ◌∙◌, false, not, ap, sym, map, length, eq-eqb, ne_eqb, arith}
+use Rattle.std.proofs.Common.{◌≡◌, ◌<◌, ◌∙◌, false, not, ap, sym, map, length, arith, eq-eqb, ne_eqb}
 use Rattle.std.specs.Prelude.{find, unwrap_or, ◌&&◌, ◌==◌}
 use Rattle.std.specs.List.{range_with_len}
 use Rattle.std.proofs.Math.Bool.{and-false}
@@ -8,8 +8,8 @@ use Rattle.task_table.specs.Table.{Table}
 use Rattle.core_lanes.specs.Lanes.{Beside, lane_state, room_of}
 use Rattle.core_lanes.proofs.Onlines.{none_more, first_found, online_is}
 use Rattle.cpu_hotplug.proofs.away.lowest_other.Invariants.{is_other}
-use Rattle.cpu_hotplug.proofs.away.lowest_other.Goals as goal
 use Rattle.cpu_hotplug.proofs.away.lowest_other.Goals.{else-index-via-then-index+else-other-cpu, else-index-via-else-index}
+use Rattle.cpu_hotplug.proofs.away.lowest_other.Goals as goal
 
 pub returns-then-other-cpu-clause-lowest : goal.returns-then-other-cpu-clause-lowest
 returns-then-other-cpu-clause-lowest g c beside table =

@@ -1,4 +1,4 @@
-use Rattle.std.proofs.Common.{refl, ◌≡◌, ◌++◌, take, drop, ◌<◌, ◌+◌, ◌∙◌, ℕ, List, ap, sym, subst, set, map, length, get_or, eqb, eq-eqb, ne_eqb, arith}
+use Rattle.std.proofs.Common.{refl, ◌≡◌, ◌++◌, take, drop, ◌<◌, ◌+◌, ◌∙◌, ℕ, List, ap, sym, subst, set, map, length, get_or, eqb, arith, eq-eqb, ne_eqb}
 use Rattle.std.specs.List.{enumerate_from}
 use Rattle.std.proofs.Math.Seq.{take-length, drop-length}
 use Rattle.std.proofs.lemmas.List.{append-nil, map-set, length-map, get_or_default}
@@ -11,8 +11,8 @@ use Rattle.core_lanes.specs.declared.lane.Lane.{Lane}
 use Rattle.core_lanes.specs.Changes.{ChangesLanes}
 use Rattle.cpu_hotplug.specs.Leaves.{ChangesLane}
 use Rattle.core_lanes.proofs.Stays.{lane_at, numbers_kept, queues_kept}
-use Rattle.cpu_hotplug.proofs.away.set_one_away.Goals as goal
 use Rattle.cpu_hotplug.proofs.away.set_one_away.Goals.{then-other-cpu, else-other-cpu}
+use Rattle.cpu_hotplug.proofs.away.set_one_away.Goals as goal
 
 pub loop-other-init : goal.loop-other-init
 loop-other-init g c = record { states = refl; numbers = refl; queues = refl }

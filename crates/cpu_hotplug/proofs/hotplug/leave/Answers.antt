@@ -11,7 +11,7 @@ use Rattle.task_table.specs.Table.{Table}
 use Rattle.core_lanes.specs.Changes.{Kept}
 use Rattle.core_lanes.specs.Lanes.{AreLow, BareCore, bare, at, beside_after, lane_state, room_by, room_of}
 use Rattle.core_lanes.specs.Numbers.{Numbers, numbers_in, with_ended, touched}
-use Rattle.core_lanes.proofs.Stays.{number_of, queue_of, both_stay, alike_stays}
+use Rattle.core_lanes.proofs.Stays.{both_stay, alike_stays, number_of, queue_of}
 use Rattle.cpu_hotplug.proofs.Steps.{with_account, without_interval_is, leave_is}
 use Rattle.cpu_hotplug.proofs.hotplug.leave.Goals as goal
 

@@ -20,7 +20,7 @@ use Rattle.cs_types.proofs.Selections.{selects}
 use Rattle.cs_types.proofs.Refusals.{refused_leaves}
 use Rattle.cs_types.proofs.BalancePlaces.{places-fold_of}
 use Rattle.cs_types.proofs.Times.{timely-fold_of, clock-step}
-use Rattle.cs_types.proofs.Accounts.{IsAccounted, account_of, charged_up_to, accounted-fold_of}
+use Rattle.cs_types.proofs.Accounts.{IsAccounted, accounted-fold_of, account_of, charged_up_to}
 use Rattle.core_events.proofs.Views.{total_kept, behind_of, own_run}
 use Rattle.cs_types.proofs.Timely.{IsTimely}
 use Rattle.core_lanes.specs.declared.lane.Lane.{Lane}
@@ -29,8 +29,8 @@ use Rattle.core_tasks.specs.State.{room_with, state_numbers}
 use Rattle.core_events.specs.Machine.{Machine}
 use Rattle.core_events.proofs.Playable.{most_entries-le, first_pid-low}
 use Rattle.core_events.proofs.Machines.{folds_of, timely_with, of_states, history_more, reply_more, folds_more}
-use Rattle.core_events.proofs.room.CoreRoomRoom.apply.Goals as goal
 use Rattle.task_table.specs.Table.{total_in}
+use Rattle.core_events.proofs.room.CoreRoomRoom.apply.Goals as goal
 
 pub counted-reply-requires-clause-may : goal.counted-reply-requires-clause-may
 counted-reply-requires-clause-may g c =

@@ -42,16 +42,12 @@ returns-in_default-clause-entries g c =
     (none_left opening past (history_of opening c.loop-entries.self.steps) _ c.loop-entries.invariant.ahead (sym c.in_default.is ∙ next))
 
 pub returns-in_default-clause-nobody_pending : goal.returns-in_default-clause-nobody_pending
-returns-in_default-clause-nobody_pending g c =
-    let m = c.args.self.now in
-    nobody_pending_at_end m.opening c.loop-entries.self.opening (history_of m.opening m.steps) (history_of c.loop-entries.self.opening c.loop-entries.self.steps)
-    c.loop-entries.invariant.opening (returns-in_default-clause-entries g c)
+returns-in_default-clause-nobody_pending g c = nobody_pending_at_end c.loop-entries.invariant.opening (returns-in_default-clause-entries g c)
 
 pub returns-in_default-clause-one_cookie : goal.returns-in_default-clause-one_cookie
 returns-in_default-clause-one_cookie g c =
     let m = c.args.self.now in
-    one_cookie_at_end m.opening c.loop-entries.self.opening (history_of m.opening m.steps) (history_of c.loop-entries.self.opening c.loop-entries.self.steps)
-    c.loop-entries.invariant.opening (returns-in_default-clause-entries g c)
+    one_cookie_at_end c.loop-entries.invariant.opening (returns-in_default-clause-entries g c)
     (playable_of c.self.inside c.self.invariant m c.self.view_is) (events_of c.self.inside c.self.invariant m c.self.view_is) (IsLegal-history_of m.opening m.steps)
 
 pub apply-requires-clause-event : goal.apply-requires-clause-event
@@ -112,16 +108,12 @@ returns-clause-entries g c =
     (all_made opening past now (subst (IsAhead opening past now) none c.loop-entries.invariant.ahead))
 
 pub returns-clause-nobody_pending : goal.returns-clause-nobody_pending
-returns-clause-nobody_pending g c =
-    let m = c.args.self.now in
-    nobody_pending_at_end m.opening c.loop-entries.self.opening (history_of m.opening m.steps) (history_of c.loop-entries.self.opening c.loop-entries.self.steps)
-    c.loop-entries.invariant.opening (returns-clause-entries g c)
+returns-clause-nobody_pending g c = nobody_pending_at_end c.loop-entries.invariant.opening (returns-clause-entries g c)
 
 pub returns-clause-one_cookie : goal.returns-clause-one_cookie
 returns-clause-one_cookie g c =
     let m = c.args.self.now in
-    one_cookie_at_end m.opening c.loop-entries.self.opening (history_of m.opening m.steps) (history_of c.loop-entries.self.opening c.loop-entries.self.steps)
-    c.loop-entries.invariant.opening (returns-clause-entries g c)
+    one_cookie_at_end c.loop-entries.invariant.opening (returns-clause-entries g c)
     (playable_of c.self.inside c.self.invariant m c.self.view_is) (events_of c.self.inside c.self.invariant m c.self.view_is) (IsLegal-history_of m.opening m.steps)
 
 pub overflow_mul-most : goal.overflow_mul-most

@@ -9,7 +9,7 @@ use Rattle.core_lanes.specs.Queued.{HasOwnStamp}
 use Rattle.core_lanes.specs.Lanes.{IsFit, AreHeld, AreHeldBut}
 use Rattle.core_lanes.proofs.Alike.{queued_at-alike}
 use Rattle.core_lanes.proofs.Queues.{others-replaced}
-use Rattle.core_lanes.proofs.Replaced.{is_of, own_stamp, agree-replaced, fits_known, changes_known}
+use Rattle.core_lanes.proofs.Replaced.{is_of, own_stamp, changes_replaced}
 use Rattle.core_lanes.proofs.Stays.{found_in, as_many_bare}
 use Rattle.cs_types.proofs.Spots.{replaced_by}
 use Rattle.std.proofs.lemmas.List.{length-map}
@@ -30,11 +30,7 @@ returns-then-is_alike-clause-changes g c =
     (agree.held cpu queue at)
     ) in
     let core = c.args.self.now in
-    changes_known core core before c.change.new.self task c.requires (record {
-      table = changed;
-      bare = refl;
-      agree = agree-replaced core core before c.change.new.self task (fits_known (core, before) task c.requires) refl changed c.change.ensures.sound held;
-    })
+    changes_replaced core core before c.change.new.self task c.requires refl changed c.change.ensures.sound held
 
 pub take-requires : goal.take-requires
 take-requires g c =
@@ -73,13 +69,8 @@ pub returns-clause-changes : goal.returns-clause-changes
 returns-clause-changes g c =
     let core = c.args.self.now in
     let before = c.args.table.now in
-    let same = c.put.ensures.queues.bare ∙ c.take.ensures.queues.bare in
-    let changed = c.change-2.ensures.changed in
-    changes_known core c.put.new.self before c.change-2.new.self c.args.task c.requires (record {
-      table = changed;
-      bare = same;
-      agree = agree-replaced core c.put.new.self before c.change-2.new.self c.args.task (fits_known (core, before) c.args.task c.requires) same changed c.change-2.ensures.sound c.put.ensures.queues.held;
-    })
+    changes_replaced core c.put.new.self before c.change-2.new.self c.args.task c.requires (c.put.ensures.queues.bare ∙ c.take.ensures.queues.bare) c.change-2.ensures.changed
+    c.change-2.ensures.sound c.put.ensures.queues.held
 
 pub returns-clause-counted : goal.returns-clause-counted
 returns-clause-counted g c =

@@ -1,12 +1,12 @@
-use Rattle.std.proofs.Common.{[], cond, refl, sym, subst, ap, length-set}
+use Rattle.std.proofs.Common.{[], cond, refl, sym, subst, length-set}
 use Rattle.std.specs.Prelude.{◌==◌, All}
 use Rattle.std.proofs.lemmas.Bool.{cond-true, cond-false, eq-eqb, ne_eqb}
 use Rattle.std.proofs.lemmas.List.{map-set}
-use Rattle.std.proofs.Math.Seq.{map-set_same}
 use Rattle.core_lanes.specs.Queued.{queued_at}
-use Rattle.core_lanes.specs.Lanes.{IsFit, lane_state, queues_of}
-use Rattle.core_lanes.proofs.Stays.{number_of, queue_of, queue_at}
+use Rattle.core_lanes.specs.Lanes.{IsFit, queues_of}
+use Rattle.core_lanes.proofs.Stays.{queue_of, queue_at}
 use Rattle.core_lanes.proofs.Queues.{held-set}
+use Rattle.core_lanes.proofs.AtHome.{bare_home}
 use Rattle.core_lanes.proofs.lanes.Core.empty_queue.Goals as goal
 
 -- ---- the call
@@ -28,7 +28,7 @@ returns-clause-away g c =
     let lane = c.index_mut.result.now in
     let after = record lane { queue = c.clear.new.self } in
     record {
-      bare = rw (map-set_same lane_state lanes c.args.leaving after lane (ap lane_state c.index_mut.ensures.value), map-set_same number_of lanes c.args.leaving after lane (ap number_of c.index_mut.ensures.value)) refl;
+      bare = bare_home c.args.self.now leaving lane c.clear.new.self c.index_mut.ensures.value;
       held = record {
         table = agree.table;
         few_tasks = agree.few_tasks;

@@ -16,16 +16,16 @@ use Rattle.core_lanes.specs.declared.lanes.Core.{Core}
 use Rattle.core_lanes.specs.Numbers.{numbers_by}
 use Rattle.core_lanes.specs.Lanes.{room_by, room_of, queues_of, AreHeldAs, AgreeAway, IsFit, MayEnter}
 use Rattle.core_lanes.specs.Changes.{Kept, kept_of, MovesBy}
-use Rattle.core_lanes.proofs.Queues.{others-replaced, others-absent, absent_from, off_elsewhere}
+use Rattle.core_lanes.proofs.Queues.{others-replaced, others-absent, off_elsewhere}
 use Rattle.core_lanes.proofs.AtHome.{held_home, bare_home}
 use Rattle.core_lanes.proofs.Replaced.{is_of, own_stamp}
 use Rattle.core_lanes.proofs.Placed.{lone_placed}
 use Rattle.core_lanes.proofs.Lists.{is_there, is_it}
 use Rattle.core_lanes.proofs.Stays.{some_beside, found_in, queue_of, queue_at, stamp_next}
 use Rattle.core_lanes.proofs.lanes.Core.enter.Given.{Over}
-use Rattle.core_lanes.proofs.lanes.Core.enter.Goals as goal
 use Rattle.core_lanes.proofs.Counted.{of_one, as_many_live}
 use Rattle.core_lanes.proofs.lanes.Core.enter.Goals.{After-place, After-unwrap-entered}
+use Rattle.core_lanes.proofs.lanes.Core.enter.Goals as goal
 
 -- what the queues hold while the tasks of a sibling leave it, but for the task with this pid
 abbrev AreHeldAwayBut : {Q : Type 0} {g : Ghosts Q} → ℕ → ℕ → Core Q g × Table → Type 0
@@ -39,7 +39,7 @@ with before task = record before { tasks = map (replaced_by task) before.tasks }
 module _ {Q : Type 0} {g : Ghosts Q} (core : Core Q g) (before : Table) (task old : Task) (there : find (has_pid task.spec.pid) before.tasks ≡ Some old)
     (away : AgreeAway old.home (core, before)) where
   others_stay : (cpu : ℕ) → (cpu ≡ old.home → ⊥) → others task.spec.pid (queued_at (map (replaced_by task) before.tasks) cpu) ≡ queued_at before.tasks cpu
-  others_stay cpu other = others-replaced task before.tasks cpu ∙ absent_from task.spec.pid cpu 0 before.tasks old away.table.rising there (off_elsewhere old cpu other)
+  others_stay cpu other = others-replaced task before.tasks cpu ∙ others-absent task.spec.pid cpu before.tasks old away.table.rising there (off_elsewhere old cpu other)
 
   all_but : AreHeldAwayBut old.home task.spec.pid (core, with before task)
   all_but cpu queue at =
@@ -218,7 +218,7 @@ returns-clause-enters g c =
         held = subst (λ home. (cpu : ℕ) (q : _) → slice_get (map queue_of (set lanes home (record lane { queue = c.put.new.self }))) cpu ≡ Some q → g.Q.SiblingQueue.holds q table.limit (cond (cpu == from) [] (queued_at table.tasks cpu)))
             entered.home
             (held_home then table task (λ cpu. cond (cpu == from) [] (others pid (queued_at table.tasks cpu))) (λ cpu. cond (cpu == from) [] (queued_at table.tasks cpu))
-            (λ cpu off. ap (cond (cpu == from) []) (others-absent table.tasks task cpu apart.table.rising entered.there off)) entered.away_but lane c.put.new.self
+            (λ cpu off. ap (cond (cpu == from) []) (others-absent task.spec.pid cpu table.tasks task apart.table.rising entered.there off)) entered.away_but lane c.put.new.self
             (subst (λ n. g.Q.SiblingQueue.holds c.put.new.self table.limit (cond (n == from) [] (queued_at table.tasks n))) (sym entered.home)
             (subst (λ qs. g.Q.SiblingQueue.holds c.put.new.self table.limit qs) (sym (cond-false (to == from) [] (queued_at table.tasks to) (ne_eqb to from c.requires.elsewhere))) c.put.ensures.holds)));
       };

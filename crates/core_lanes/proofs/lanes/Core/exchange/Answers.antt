@@ -6,7 +6,7 @@ use Rattle.std.proofs.lemmas.Bool.{cases_Bool, eqb-true, eqb-false}
 use Rattle.std.proofs.lemmas.List.{map-set, length-map}
 use Rattle.std.proofs.Math.Seq.{map-set_same}
 use Rattle.core_lanes.specs.Queued.{queued_at}
-use Rattle.core_lanes.specs.Lanes.{lane_state}
+use Rattle.core_lanes.specs.Lanes.{lane_state, bare}
 use Rattle.core_lanes.specs.declared.lane.Lane.{Lane}
 use Rattle.core_lanes.proofs.Lists.{items-as_many}
 use Rattle.core_lanes.proofs.Stays.{number_of, queue_of, queue_at}
@@ -47,15 +47,7 @@ returns-clause-queues g c =
     let numbers = map-set_same number_of lanes c.args.to after lane (ap number_of c.index_mut.ensures.value)
     ∙ ap (map number_of) is ∙ swap.numbers ∙ ap (map number_of) was in
     record {
-      bare = λ i. record {
-        cookie = c.args.self.now.cookie;
-        task_number = c.args.self.now.task_number;
-        pick_number = c.args.self.now.pick_number;
-        next_stamp = c.args.self.now.next_stamp;
-        account = c.args.self.now.account;
-        siblings = states i;
-        own = numbers i;
-      };
+      bare = λ i. record (bare c.args.self.now) { siblings = states i; own = numbers i };
       held = rw (map-set queue_of lanes c.args.to after)
           (held-set (λ cpu x. cpu ≢ c.args.to → g.Q.SiblingQueue.holds x table.limit (queued_at table.tasks cpu))
           (λ cpu x. g.Q.SiblingQueue.holds x table.limit (queued_at table.tasks cpu)) (map queue_of lanes) c.args.to c.renew.new.self

@@ -2,7 +2,7 @@ use Rattle.std.proofs.Common.{arith, refl}
 use Rattle.core_lanes.specs.Queued.{queued_at, others}
 use Rattle.core_lanes.proofs.Stays.{queue_at}
 use Rattle.core_lanes.proofs.Queues.{others-absent}
-use Rattle.core_lanes.proofs.AtHome.{held_asleep, held_home, bare_home}
+use Rattle.core_lanes.proofs.AtHome.{changes_asleep, changes_home}
 use Rattle.core_lanes.proofs.Counted.{of_one}
 use Rattle.core_lanes.proofs.lanes.Core.put.Goals as goal
 
@@ -23,23 +23,16 @@ pub returns-then-task-clause-queues : goal.returns-then-task-clause-queues
 returns-then-task-clause-queues g c =
     let task = c.args.task.now in
     let tasks = c.args.table.now.tasks in
-    let home = c.requires.home in
-    record {
-      bare = bare_home c.args.self.now task.home c.index_mut.result.now c.put.new.self c.index_mut.ensures.value;
-      held = held_home c.args.self.now c.args.table.now task (λ cpu. others task.spec.pid (queued_at tasks cpu)) (queued_at tasks)
-          (λ cpu off. others-absent tasks task cpu home.table.rising home.there off) home.held c.index_mut.result.now c.put.new.self c.put.ensures.holds;
-    }
+    changes_home c.args.self.now c.args.table.now task (λ cpu. others task.spec.pid (queued_at tasks cpu)) (queued_at tasks)
+    (λ cpu off. others-absent task.spec.pid cpu tasks task c.requires.home.table.rising c.requires.home.there off) c.requires.home.held
+    _ c.index_mut.result.now c.put.new.self c.index_mut.ensures.value refl refl c.put.ensures.holds
 
 pub returns-else-task-clause-queues : goal.returns-else-task-clause-queues
 returns-else-task-clause-queues g c =
     let task = c.args.task.now in
     let tasks = c.args.table.now.tasks in
-    let home = c.requires.home in
-    record {
-      bare = refl;
-      held = held_asleep c.args.self.now c.args.table.now task (λ cpu. others task.spec.pid (queued_at tasks cpu)) (queued_at tasks)
-          (λ cpu off. others-absent tasks task cpu home.table.rising home.there off) home.held c.if-task.false;
-    }
+    changes_asleep c.args.self.now c.args.table.now task (λ cpu. others task.spec.pid (queued_at tasks cpu)) (queued_at tasks)
+    (λ cpu off. others-absent task.spec.pid cpu tasks task c.requires.home.table.rising c.requires.home.there off) c.requires.home.held c.if-task.false
 
 pub returns-then-task-clause-counted : goal.returns-then-task-clause-counted
 returns-then-task-clause-counted g c =

@@ -9,8 +9,8 @@ use Rattle.task_table.specs.Table.{Table}
 use Rattle.core_lanes.specs.Lanes.{IsFit, AreHeld, Knows}
 use Rattle.core_lanes.specs.Changes.{Touches}
 use Rattle.core_lanes.specs.Numbers.{touched}
-use Rattle.core_lanes.proofs.Queues.{absent_from, others-replaced}
-use Rattle.core_lanes.proofs.Replaced.{is_of, rises-replaced, agree-replaced, fits_known, changes_known}
+use Rattle.core_lanes.proofs.Queues.{others-absent, others-replaced}
+use Rattle.core_lanes.proofs.Replaced.{is_of, rises-replaced, changes_replaced}
 use Rattle.core_lanes.proofs.Stays.{found_in, both_stay}
 use Rattle.core_lanes.proofs.Timed.{timed_is}
 use Rattle.core_lanes.proofs.lanes.Core.put_to_sleep.Goals as goal
@@ -56,15 +56,10 @@ returns-clause-touches g c task is =
     let held : AreHeld (mid, after) = subst (λ (t : Table). AreHeld (mid, t)) (sym changed) (
     λ cpu queue at.
     subst (λ qs. g.Q.SiblingQueue.holds queue before.limit qs)
-    (sym (others-replaced asleep before.tasks cpu) ∙ absent_from was.spec.pid cpu 0 (map (replaced_by asleep) before.tasks) asleep (rises-replaced asleep before.tasks agree.table.rising) (is_of asleep was before.tasks there) refl)
+    (sym (others-replaced asleep before.tasks cpu) ∙ others-absent was.spec.pid cpu (map (replaced_by asleep) before.tasks) asleep (rises-replaced asleep before.tasks agree.table.rising) (is_of asleep was before.tasks there) refl)
     (c.take.ensures.queues.held cpu queue at)
     ) in
-    let bare = c.take.ensures.queues.bare in
-    let slept = changes_known old mid before after asleep knows (record {
-      table = changed;
-      bare = bare;
-      agree = agree-replaced old mid before after asleep (fits_known (old, before) asleep knows) bare changed c.put_to_sleep.ensures.sound held;
-    }) in
+    let slept = changes_replaced old mid before after asleep knows c.take.ensures.queues.bare changed c.put_to_sleep.ensures.sound held in
     let touch = c.touch.ensures after in
     subst (λ (t : Task). Touches 1 (old, before) (c.touch.new.self, after) (λ room. dequeue room t)) same (record {
       room = λ beside. touch.room beside ∙ slept.room beside;

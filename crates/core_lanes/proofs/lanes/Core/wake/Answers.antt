@@ -9,8 +9,8 @@ use Rattle.core_lanes.specs.Queued.{IsOf, HasOwnStamp}
 use Rattle.core_lanes.specs.Lanes.{AreHeldBut, Knows, MayWake}
 use Rattle.core_lanes.specs.Numbers.{touched}
 use Rattle.core_lanes.proofs.Lists.{is_there, is_it}
-use Rattle.core_lanes.proofs.Queues.{absent_from, others-replaced, off_asleep}
-use Rattle.core_lanes.proofs.Replaced.{is_of, own_stamp, agree-replaced, fits_known, changes_known}
+use Rattle.core_lanes.proofs.Queues.{others-absent, others-replaced, off_asleep}
+use Rattle.core_lanes.proofs.Replaced.{is_of, own_stamp, changes_replaced}
 use Rattle.core_lanes.proofs.Stays.{both_stay, stamp_next, stamped_later}
 use Rattle.core_lanes.proofs.Timed.{timed_is}
 use Rattle.core_lanes.proofs.lanes.Core.wake.Given.{Over}
@@ -62,7 +62,7 @@ module _ {Q : Type 0} {g : Ghosts Q} (core : Core Q g) (before after : Table) (t
       let apart = may.may.knows.apart in
       subst (λ (t : Table). AreHeldBut task.spec.pid (core, t)) (sym changed) (λ cpu queue at.
       subst (λ qs. g.holds queue before.limit qs)
-      (sym (others-replaced (woken core task) before.tasks cpu ∙ absent_from task.spec.pid cpu 0 before.tasks apart.old apart.agree.table.rising apart.there (off_asleep apart.old cpu may.asleep)))
+      (sym (others-replaced (woken core task) before.tasks cpu ∙ others-absent task.spec.pid cpu before.tasks apart.old apart.agree.table.rising apart.there (off_asleep apart.old cpu may.asleep)))
       (apart.agree.held cpu queue at))
 
 pub unwrap-queued-requires : goal.unwrap-queued-requires
@@ -104,12 +104,7 @@ returns-clause-touches g c =
     let now = woken core task in
     let known = knows core before after task c.requires given in
     let is = changed core before after task c.requires given in
-    let bare = c.put.ensures.queues.bare in
-    let woke = changes_known (later core) c.put.new.self before after now known (record {
-      table = is;
-      bare = bare;
-      agree = agree-replaced (later core) c.put.new.self before after now (fits_known (later core, before) now known) bare is c.queue_up.ensures.sound c.put.ensures.queues.held;
-    }) in
+    let woke = changes_replaced (later core) c.put.new.self before after now known c.put.ensures.queues.bare is c.queue_up.ensures.sound c.put.ensures.queues.held in
     let touch = c.touch.ensures after in
     let next : core.next_stamp ≤ core.next_stamp + 1 = omega arith in
     record {

@@ -14,17 +14,19 @@ use Rattle.core_lanes.specs.Changes.{Becomes}
 use Rattle.core_lanes.proofs.Stays.{some_beside, found_in}
 use Rattle.core_tasks.specs.State.{both, beside_of, room_with, IsGiven, state_numbers, IsGone}
 use Rattle.core_tasks.proofs.States.{lifted, both_stay}
-use Rattle.core_tasks.proofs.Lives.{but, but-changed, find-changed, any-changed, agree-but, gone-push, total-moved}
-use Rattle.core_tasks.proofs.state.State.end.Goals as goal
+use Rattle.core_tasks.proofs.Lives.{any-changed, agree-but, gone-push, total-moved}
 use Rattle.core_lanes.specs.Numbers.{with_ended}
 use Rattle.std.proofs.lemmas.List.{map_push}
+use Rattle.core_lanes.proofs.Queues.{but, but-changed}
+use Rattle.core_lanes.proofs.Replaced.{is_of as is_of_after}
+use Rattle.core_tasks.proofs.state.State.end.Goals as goal
 
 module _ {Q : Type 0} {g : Ghosts Q} (old new : Core Q g × Table) (task : Task) (becomes : Becomes old new (λ room. dequeue room task)) where
   -- a dequeued task is found among the tasks
   found : IsOf old.1.tasks task → find (has_pid task.spec.pid) new.1.tasks ≡ Some (record task { queued = false })
   found there =
       ap (λ (room : RoomState). find (has_pid task.spec.pid) room.tasks) (becomes some_beside)
-      ∙ find-changed (record task { queued = false }) task old.1.tasks there
+      ∙ is_of_after (record task { queued = false }) task old.1.tasks there
 
   -- and leads nobody where it led nobody
   alone : has_threads (room_of some_beside old) task ≡ false → has_threads (room_of some_beside new) (record task { queued = false }) ≡ false

@@ -4,8 +4,7 @@ use Rattle.std.specs.List.{reduce}
 use Rattle.cs_types.specs.declared.task.Task.{Task}
 use Rattle.cs_types.specs.Order.{foremost, is_fair}
 use Rattle.cs_types.proofs.Foremost.{foremost_reduce}
-use Rattle.core_lanes.proofs.Lists.{filter-filter}
-use Rattle.core_lanes.proofs.Lists.{less_is_order}
+use Rattle.core_lanes.proofs.Lists.{filter-filter, less_is_order}
 use Rattle.plain_room.proofs.walk.WalkSiblingQueue.smallest_vtime.Goals as goal
 
 pub returns : goal.returns
