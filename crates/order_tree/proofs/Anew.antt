@@ -1,7 +1,5 @@
 -- A tree whose keys are renewed in place: its sides rise still, and its shape is the one it had.
-use Rattle.std.proofs.Common.{◌≡◌, ℕ, true, List, ◌∷◌, ◌++◌, map, Option, Some, refl, sym, ap, ◌∙◌, subst}
-use Rattle.std.specs.Prelude.{Box}
-use Rattle.std.specs.declared.alloc.Global.{Global}
+use Rattle.std.proofs.Common.{◌≡◌, ℕ, true, List, ◌∷◌, ◌++◌, map, sym, ap, ◌∙◌}
 use Rattle.std.proofs.lemmas.Bool.{and_parts}
 use Rattle.std.proofs.lemmas.List.{map-append}
 use Rattle.std.specs.FinMap.{is_sorted}
@@ -9,21 +7,10 @@ use Rattle.cs_types.specs.Queue.{Key}
 use Rattle.order_tree.specs.Order.{Entry, key_cmp}
 use Rattle.order_tree.specs.Anew.{rekeyed}
 use Rattle.order_tree.specs.Branch.{Branch}
-use Rattle.order_tree.specs.Balance.{entry_in, under, branch_of, IsEven, IsBalanced, IsNode}
+use Rattle.order_tree.specs.Balance.{entry_in, IsNode}
 use Rattle.order_tree.specs.declared.tree.Node.{Node}
 use Rattle.order_tree.proofs.Entries.{is_sorted-front, is_sorted-back}
 use Rattle.order_tree.proofs.Keys.{key_total}
-
--- a node of a tree stands for what the tree does
-pub under-from : {root : Option (Box Node Global)} {whole : Branch} {box : Box Node Global} {node : Node} → branch_of root ≡ whole → root ≡ Some box → node ≡ box.value →
-    under node ≡ whole
-under-from view_is is same = ap under same ∙ ap branch_of (sym is) ∙ view_is
-
-pub even-from : {root : Option (Box Node Global)} {box : Box Node Global} {node : Node} → IsBalanced root → root ≡ Some box → node ≡ box.value → IsEven node
-even-from balanced is same = subst IsEven (sym same) (subst IsBalanced is balanced)
-
-pub IsNode-even : (node : Node) → IsEven node → IsNode (under node) node
-IsNode-even node even = record { root = record { entries = refl; fork = even.fork }; lean = even.lean }
 
 module _ (at : ℕ → Key → Key) where
   abbrev anew : List Entry → List Entry

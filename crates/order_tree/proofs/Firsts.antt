@@ -1,5 +1,5 @@
 -- A tree whose first entry is taken out.
-use Rattle.std.proofs.Common.{◌≡◌, ◌+◌, Bool, true, cond, List, [], ◌∷◌, ◌++◌, Option, None, Some, Box, Global, sym, ap, ◌∙◌, subst, arith}
+use Rattle.std.proofs.Common.{◌≡◌, ◌+◌, Bool, true, cond, List, ◌∷◌, ◌++◌, Option, None, Some, Box, Global, sym, ap, ◌∙◌, subst}
 use Rattle.std.proofs.lemmas.Bool.{and_parts}
 use Rattle.std.specs.FinMap.{is_sorted}
 use Rattle.order_tree.specs.Order.{Entry, key_cmp}
@@ -25,22 +25,3 @@ rising-others at side lower None has = absurd has
 rising-others {node = node} at side lower (Some first) has =
     (and_parts _ _
     (ap (λ (es : List Entry). is_sorted key_cmp (es ++ entry_in node ∷ node.right.entries)) (sym has.entries) ∙ at.root.fork.sides.rising)).1
-
--- where the left side is empty, the root comes out, and the right side is left
-pub first-alone : {whole others : Branch} {node : Node} {taken : Option (Box Node Global)} {first : Box Node Global} → IsNode whole node → taken ≡ Some first →
-    entry_in first.value ≡ entry_in node → node.left.entries ≡ [] → node.left.height ≡ 0 → others ≡ node.right → HasFirst whole taken others true
-first-alone {whole} {others} {node} at taken_is same bare flat is =
-    subst (λ o. HasFirst whole o others true) (sym taken_is)
-    (record {
-      entries = at.root.entries ∙ ap (λ es. es ++ entry_in node ∷ node.right.entries) bare ∙ (λ i. sym same i ∷ (sym is i).entries);
-      height = omega (arith, at.root.fork.one_more, flat, ap (λ (b : Branch). b.height) is);
-    })
-
--- where the first of the left side comes out, it is the first of the tree
-pub first-over : {whole : Branch} {node : Node} → IsNode whole node → (side : Branch) (lower : Bool) (taken : Option (Box Node Global)) → HasFirst node.left taken side lower →
-    (after : Branch) (low : Bool) → after.entries ≡ joined side (entry_in node) node.right → whole.height ≡ after.height + cond low 1 0 → HasFirst whole taken after low
-first-over at side lower None has after low is height = absurd has
-first-over {node = node} at side lower (Some first) has after low is height = record {
-  entries = at.root.entries ∙ ap (λ (es : List Entry). es ++ entry_in node ∷ node.right.entries) has.entries ∙ ap (λ (es : List Entry). entry_in first.value ∷ es) (sym is);
-  height = height;
-}

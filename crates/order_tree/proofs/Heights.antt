@@ -1,5 +1,5 @@
 -- How many entries a tree of some height has, and so how high a tree of some entries is.
-use Rattle.std.proofs.Common.{◌≡◌, ℕ, zero, suc, ◌+◌, ◌*◌, ◌/◌, ◌≤◌, Bool, true, false, not, cond, max, inl, inr, ap, ◌∙◌, subst, arith}
+use Rattle.std.proofs.Common.{◌≡◌, ℕ, zero, suc, ◌+◌, ◌*◌, ◌/◌, ◌≤◌, Bool, true, false, cond, max, inl, inr, ap, ◌∙◌, subst, arith}
 use Rattle.std.proofs.lemmas.Bool.{cases_lt}
 use Rattle.cs_types.specs.Comparisons.{digits}
 use Rattle.cs_types.proofs.Comparisons.{digits-step}
@@ -66,27 +66,5 @@ level_kept before after is kept = let told = is ∙ ap (λ b. after + cond b 1 0
 pub level_lost : (before after : ℕ) {lower : Bool} → before ≡ after + cond lower 1 0 → lower ≡ true → before ≡ after + 1
 level_lost before after is lost = is ∙ ap (λ b. after + cond b 1 0) lost
 
--- a level less, or as many as before, where a tree of these levels less one came to this height
-pub lowered : (before after levels : ℕ) (high : Bool) → before ≡ levels + 1 → after ≡ levels + cond high 1 0 → before ≡ after + cond (not high) 1 0
-lowered before after levels true was is = omega arith
-lowered before after levels false was is = omega arith
-
--- as many as before, or a level more, where one side got a level more
-pub raised-left : (whole left right side after more : ℕ) → whole ≡ max left right + 1 → side ≡ left + 1 → after ≡ max side (right + 1) + more → after ≡ whole + more
-raised-left whole left right side after more was grown is = omega arith
-
-pub raised-right : (whole left right side after more : ℕ) → whole ≡ max left right + 1 → side ≡ right + 1 → after ≡ max (left + 1) side + more → after ≡ whole + more
-raised-right whole left right side after more was grown is = omega arith
-
 pub no_more : (before after : ℕ) → before ≡ after → before ≡ after + 0
 no_more before after is = omega arith
-
--- the comparisons of a node, and those of one of its sides
-pub counted-root : (start ticked levels whole : ℕ) → ticked ≡ start + 1 → whole ≡ levels + 1 → ticked ≤ start + whole
-counted-root start ticked levels whole once was = omega arith
-
-pub counted-left : (start ticked after left right whole : ℕ) → ticked ≡ start + 1 → after ≤ ticked + left → whole ≡ max left right + 1 → after ≤ start + whole
-counted-left start ticked after left right whole once below was = omega arith
-
-pub counted-right : (start ticked after left right whole : ℕ) → ticked ≡ start + 1 → after ≤ ticked + right → whole ≡ max left right + 1 → after ≤ start + whole
-counted-right start ticked after left right whole once below was = omega arith

@@ -1,6 +1,6 @@
 -- A tree that was taken apart: where a key goes, and what a change of a side makes of the whole.
-use Rattle.std.proofs.Common.{◌≡◌, ℕ, ◌+◌, ◌*◌, ◌<◌, ◌≤◌, Bool, true, false, cond, List, ◌∷◌, ◌++◌, Box, Option, None, Some, length, max, refl, sym, ap, ◌∙◌, subst, arith, length-append, MatchOption}
-use Rattle.std.specs.Prelude.{[], IsTrue, is_some}
+use Rattle.std.proofs.Common.{◌≡◌, ℕ, ◌+◌, ◌*◌, ◌<◌, ◌≤◌, Bool, true, false, cond, List, ◌∷◌, ◌++◌, Box, Option, None, Some, length, refl, sym, ap, ◌∙◌, subst, arith, length-append, MatchOption}
+use Rattle.std.specs.Prelude.{is_some}
 use Rattle.std.specs.FinMap.{find, put, is_sorted}
 use Rattle.std.specs.Ordering.{is_lt}
 use Rattle.std.specs.Cmp.{tied_itself}
@@ -13,8 +13,7 @@ use Rattle.std.specs.List as list
 use Rattle.std.specs.Option.{option_map, option_or}
 use Rattle.std.specs.declared.alloc.Global.{Global}
 use Rattle.order_tree.specs.Branch.{Branch, without, reaches}
-use Rattle.order_tree.specs.Balance.{entry_in, joined, branch_of, fewest, HasMany, Leans, HoldsSides, IsFork, IsEven, IsBalanced, IsRoot, IsTaken, IsTakenIf, IsUprooted, IsNode}
-use Rattle.std.proofs.lemmas.List.{append-nil}
+use Rattle.order_tree.specs.Balance.{entry_in, joined, branch_of, fewest, HasMany, Leans, under, HoldsSides, IsFork, IsEven, IsBalanced, IsRoot, IsTakenIf, IsNode}
 use Rattle.order_tree.specs.declared.key.Key.{Key}
 use Rattle.order_tree.specs.declared.tree.Node.{Node}
 use Rattle.order_tree.proofs.Entries.{less_by, find-left, find-right, find-middle, put-left, put-right, is_sorted-put_of, where_key-left, where_key-right, where_key-middle, is_sorted-without, find_passes-left, find_passes-right}
@@ -82,6 +81,18 @@ pub IsNode-from : {root : Option (Box Node Global)} {whole : Branch} {box : Box 
 IsNode-from {root} {whole} {box} {node} view_is balanced is same =
     let even : IsEven box.value = subst IsBalanced is balanced in
     subst (IsNode whole) (sym same) (record { root = IsRoot-from view_is balanced is; lean = even.lean })
+
+-- a node of a tree stands for what the tree does
+pub under-from : {root : Option (Box Node Global)} {whole : Branch} {box : Box Node Global} {node : Node} → branch_of root ≡ whole → root ≡ Some box → node ≡ box.value →
+    under node ≡ whole
+under-from view_is is same = ap under same ∙ ap branch_of (sym is) ∙ view_is
+
+pub even-from : {root : Option (Box Node Global)} {box : Box Node Global} {node : Node} → IsBalanced root → root ≡ Some box → node ≡ box.value → IsEven node
+even-from balanced is same = subst IsEven (sym same) (subst IsBalanced is balanced)
+
+pub IsNode-even : {old node : Node} → IsEven old → node ≡ old → IsNode (under old) node
+IsNode-even {old} {node} even same =
+    subst (IsNode (under old)) (sym same) (record { root = record { entries = refl; fork = even.fork }; lean = even.lean })
 
 -- what a tree's root says of it, where there is one
 pub root-taken : (root : Option (Box Node Global)) {whole : Branch} → branch_of root ≡ whole → IsBalanced root →
@@ -209,11 +220,6 @@ module _ {whole left : Branch} {entry : Entry} {right : Branch} (root : IsRoot w
 pub falls : (side whole measure : ℕ) → side < whole → 2 * (whole + 1) + 0 ≡ measure → 2 * (side + 1) + 0 < measure
 falls side whole measure short is = omega arith
 
--- entries that a call says are not empty
-pub not_empty : {es : List Entry} (empty : Bool) → (IsTrue empty → es ≡ []) × (es ≡ [] → IsTrue empty) → empty ≡ false → es ≡ [] → ⊥
-not_empty true says is none = cc
-not_empty false says is none = let h = says.1 none in cc
-
 -- the last of three choices, where the second is made
 pub option_or-Some : {A : Type 0} (o : Option A) (x : A) (other : Option A) → option_or (option_or o (Some x)) other ≡ option_or o (Some x)
 option_or-Some None x other = refl
@@ -245,36 +251,3 @@ pub left_of : (node : Node) (taken : Option (Box Node Global)) (after : Branch) 
     (after.entries ≡ node.left.entries ++ node.right.entries) × (option_map (λ (n : Box Node Global). n.value.pid) taken ≡ Some node.pid)
 left_of node None after lower t = absurd t
 left_of node (Some box) after lower t = (t.entries, ap Some t.pid)
-
-pub left-height : (node : Node) (taken : Option (Box Node Global)) (after : Branch) (lower : Bool) → IsTakenIf node taken after lower →
-    max node.left.height node.right.height + 1 ≡ after.height + cond lower 1 0
-left-height node None after lower t = absurd t
-left-height node (Some box) after lower t = t.height
-
--- a tree in balance has many entries
-pub many-balanced : (root : Option (Box Node Global)) → IsBalanced root → HasMany (branch_of root)
-many-balanced None balanced = omega arith
-many-balanced (Some node) balanced = balanced.fork.many
-
--- what a tree with no root stands for
-pub no_root : {root : Option (Box Node Global)} {whole : Branch} → branch_of root ≡ whole → root ≡ None → whole ≡ branch_of None
-no_root view_is is = sym view_is ∙ ap branch_of is
-
--- what a root that was taken out says of its tree, by the names of the places
-pub uprooted-by : {root taken : Option (Box Node Global)} {node spare : Box Node Global} {own : Node} {after : Branch} {lower : Bool} → root ≡ Some node → own ≡ node.value →
-    taken ≡ Some spare → IsTaken own spare.value after lower → IsUprooted root taken after lower
-uprooted-by {root} {taken} {node} {spare} {own} {after} {lower} root_is own_is taken_is is =
-    subst (λ r. IsUprooted r taken after lower) (sym root_is)
-    (subst (λ o. IsTakenIf node.value o after lower) (sym taken_is) (subst (λ n. IsTaken n spare.value after lower) own_is is))
-
--- a root that has no right side leaves the left one
-pub taken-left : (own spare : Node) (after : Branch) (empty : Bool) → empty ≡ true → (IsTrue empty → own.right.entries ≡ []) → (IsTrue empty → own.right.height ≡ 0) →
-    after ≡ own.left → spare.pid ≡ own.pid → IsTaken own spare after true
-taken-left own spare after empty is none low left pid =
-    let bare = none is in
-    let flat = low is in
-    let same = ap (λ (b : Branch). b.height) left in record {
-      entries = ap (λ (b : Branch). b.entries) left ∙ sym (append-nil own.left.entries) ∙ ap (λ es. own.left.entries ++ es) (sym bare);
-      pid = pid;
-      height = omega arith;
-    }

@@ -1,5 +1,5 @@
 -- Balance: what a node stands for, and what always holds of one. No public clause cites this module.
-use Rattle.std.specs.Prelude.{◌≡◌, ◌≢◌, ℕ, zero, suc, ◌+◌, ◌≤◌, max, Bool, List, [], ◌∷◌, ◌++◌, length, IsTrue, Option, Some, None, if◌then◌else◌}
+use Rattle.std.specs.Prelude.{◌≡◌, ℕ, zero, suc, ◌+◌, ◌≤◌, max, Bool, List, [], ◌∷◌, ◌++◌, length, IsTrue, Option, Some, None, if◌then◌else◌}
 use Rattle.std.specs.FinMap.{is_sorted}
 use Rattle.std.specs.declared.cmp.Ordering.{Ordering}
 use Rattle.std.specs.declared.cmp.Ordering.TheVariants.{Less, Equal, Greater}
@@ -112,26 +112,22 @@ pub record IsTilted (node : Node) (left right : ℕ) : Type 0 where
   pub lean : Leans node.lean left right
 
 -- its left side is a level higher, or its right side
-abbrev pub TiltsLeft : Option (Box Node Global) → Type 0
-TiltsLeft None = ⊥
-TiltsLeft (Some node) = IsTilted node.value node.value.left.height (node.value.right.height + 1)
+abbrev pub TiltsLeft : Node → Type 0
+TiltsLeft node = IsTilted node node.left.height (node.right.height + 1)
 
-abbrev pub TiltsRight : Option (Box Node Global) → Type 0
-TiltsRight None = ⊥
-TiltsRight (Some node) = IsTilted node.value (node.value.left.height + 1) node.value.right.height
+abbrev pub TiltsRight : Node → Type 0
+TiltsRight node = IsTilted node (node.left.height + 1) node.right.height
 
 -- one side is two levels higher than the other
 pub record IsHigh (node : Node) (high low : ℕ) : Type 0 where
   pub sides : HoldsSides node.left (entry_in node) node.right
   pub two_higher : high ≡ low + 2
 
-abbrev pub IsHighLeft : Option (Box Node Global) → Type 0
-IsHighLeft None = ⊥
-IsHighLeft (Some node) = IsHigh node.value node.value.left.height node.value.right.height
+abbrev pub IsHighLeft : Node → Type 0
+IsHighLeft node = IsHigh node node.left.height node.right.height
 
-abbrev pub IsHighRight : Option (Box Node Global) → Type 0
-IsHighRight None = ⊥
-IsHighRight (Some node) = IsHigh node.value node.value.right.height node.value.left.height
+abbrev pub IsHighRight : Node → Type 0
+IsHighRight node = IsHigh node node.right.height node.left.height
 
 -- ---- nodes that come over others
 
@@ -140,28 +136,21 @@ pub record IsLeaning (left : Branch) (entry : Entry) (right : Branch) (lean : Or
   pub sides : HoldsSides left entry right
   pub leans : Leans lean left.height right.height
 
--- Of three nodes the outer ones can take the sides of the middle one: the keys rise then, and their other sides are as high as the higher of these.
-pub record CanSpread (low middle high : Node) : Type 0 where
-  pub rising : IsTrue (is_sorted key_cmp (joined (over low.left (entry_in low) middle.left) (entry_in middle) (over middle.right (entry_in high) high.right)))
-  pub below : HoldsSides low.left (entry_in low) middle.left
-  pub above : HoldsSides middle.right (entry_in high) high.right
+-- Two entries can take the sides of a node between them for what they lack: the keys rise then, and their other sides are as high as the higher of these.
+pub record CanSpread (left : Branch) (low : Entry) (middle : Node) (high : Entry) (right : Branch) : Type 0 where
+  pub rising : IsTrue (is_sorted key_cmp (joined (over left low middle.left) (entry_in middle) (over middle.right high right)))
+  pub below : HoldsSides left low middle.left
+  pub above : HoldsSides middle.right high right
   pub lean : Leans middle.lean middle.left.height middle.right.height
-  pub left_levels : low.left.height ≡ max middle.left.height middle.right.height
-  pub right_levels : high.right.height ≡ max middle.left.height middle.right.height
+  pub left_levels : left.height ≡ max middle.left.height middle.right.height
+  pub right_levels : right.height ≡ max middle.left.height middle.right.height
 
 -- the height that a root comes to where its sides are then as high as each other
-abbrev pub left_levels : Option (Box Node Global) → ℕ
-left_levels None = 0
-left_levels (Some node) = max node.value.left.height (node.value.right.height + 1)
+abbrev pub left_levels : Node → ℕ
+left_levels node = max node.left.height (node.right.height + 1)
 
-abbrev pub right_levels : Option (Box Node Global) → ℕ
-right_levels None = 0
-right_levels (Some node) = max (node.value.left.height + 1) node.value.right.height
-
--- a root with a right side
-abbrev pub HasRight : Option (Box Node Global) → Type 0
-HasRight None = ⊥
-HasRight (Some node) = node.value.right.entries ≢ []
+abbrev pub right_levels : Node → ℕ
+right_levels node = max (node.left.height + 1) node.right.height
 
 -- a tree without the entry of its root, and the node that is spare then
 pub record IsTaken (node taken : Node) (after : Branch) (lower : Bool) : Type 0 where

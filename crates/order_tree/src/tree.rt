@@ -245,7 +245,9 @@ impl Tree {
     }
 
     /// Puts the node in its place, where no entry has its key. The result tells whether the tree is a level
-    /// higher then.
+    /// higher then. It is inlined, so that a walk calls nothing for an empty side.
+    #[cycle(insert)]
+    #[inline(always)]
     pub fn insert<L: Ledger>(&mut self, node: Box<Node>, steps: &mut Steps<L>) -> bool
         requires free { find key_cmp node.value.key self.old.entries ≡ None }
         ensures entries { self.new.entries ≡ put key_cmp node.value.key node.value.pid self.old.entries }
@@ -257,6 +259,20 @@ impl Tree {
         let Some(root) = &mut self.root else {
             return plant(&mut self.root, node);
         };
+        Tree::insert_below(root, node, steps)
+    }
+
+    /// The same of a tree with this root.
+    #[cycle(insert)]
+    #[inline(never)]
+    fn insert_below<L: Ledger>(root: &mut Box<Node>, node: Box<Node>, steps: &mut Steps<L>) -> bool
+        requires even { IsEven root.old.value }
+        requires free { find key_cmp node.value.key (under root.old.value).entries ≡ None }
+        ensures even { IsEven root.new.value }
+        ensures entries { (under root.new.value).entries ≡ put key_cmp node.value.key node.value.pid (under root.old.value).entries }
+        ensures height { (under root.new.value).height ≡ (under root.old.value).height + (if result then 1 else 0) }
+        ensures counted { steps.new ≤ steps.old + (under root.old.value).height }
+    {
         let Node {
             left,
             key,
@@ -268,12 +284,12 @@ impl Tree {
             if !left.insert(node, steps) {
                 return false;
             }
-            return lean_left(&mut self.root);
+            return lean_left(root);
         }
         if !right.insert(node, steps) {
             return false;
         }
-        lean_right(&mut self.root)
+        lean_right(root)
     }
 
     /// Takes out the node of the first entry, and puts it where none is. It compares no key. The result tells
@@ -297,7 +313,7 @@ impl Tree {
         if !left.take_first(taken) {
             return false;
         }
-        !lean_right(&mut self.root)
+        !lean_right(root)
     }
 
     /// Gives its nodes to the list, which has places for them. It compares no key.
@@ -371,14 +387,14 @@ impl Tree {
                 if !left.remove(key, taken, steps) {
                     return false;
                 }
-                !lean_right(&mut self.root)
+                !lean_right(root)
             }
             Ordering::Equal => uproot(&mut self.root, taken),
             Ordering::Greater => {
                 if !right.remove(key, taken, steps) {
                     return false;
                 }
-                !lean_left(&mut self.root)
+                !lean_left(root)
             }
         }
     }

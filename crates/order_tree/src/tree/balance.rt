@@ -3,7 +3,7 @@
 //! module, since nobody else reads the fields of a node.
 
 ghost use Rattle.std.specs.Prelude.{◌≡◌, ◌≢◌, ◌+◌, [], ◌∷◌, true, None, Some, MatchOption, if◌then◌else◌};
-ghost use Rattle.order_tree.specs.Balance.{entry_in, branch_of, over, split, IsLeaning, CanSpread, IsEven, IsBalanced, IsNode, TiltsLeft, TiltsRight, IsHighLeft, IsHighRight, left_levels, right_levels, HasRight, IsUprooted};
+ghost use Rattle.order_tree.specs.Balance.{entry_in, branch_of, over, under, split, IsLeaning, CanSpread, IsEven, IsBalanced, IsNode, TiltsLeft, TiltsRight, IsHighLeft, IsHighRight, left_levels, right_levels, IsTakenIf, IsUprooted};
 
 use super::{Node, Tree};
 use std::cmp::Ordering;
@@ -90,13 +90,13 @@ fn hang(place: &mut Tree, node: Box<Node>)
 
 /// The middle one of three nodes over the other two, which get its sides for those that they lack.
 #[inline(always)]
-fn spread(mut low: Box<Node>, mut middle: Box<Node>, mut high: Box<Node>) -> Box<Node>
+fn spread(middle: &mut Box<Node>, mut low: Box<Node>, mut high: Box<Node>)
     requires lacking { (low.value.right.entries ≡ []) × (high.value.left.entries ≡ []) }
-    requires sides { CanSpread low.value middle.value high.value }
-    ensures even { IsEven result.value }
-    ensures tree { branch_of (Some result) ≡ over (over low.value.left (entry_in low.value) middle.value.left) (entry_in middle.value) (over middle.value.right (entry_in high.value) high.value.right) }
+    requires sides { CanSpread low.value.left (entry_in low.value) middle.old.value (entry_in high.value) high.value.right }
+    ensures even { IsEven middle.new.value }
+    ensures tree { under middle.new.value ≡ over (over low.value.left (entry_in low.value) middle.old.value.left) (entry_in middle.old.value) (over middle.old.value.right (entry_in high.value) high.value.right) }
 {
-    let top = &mut *middle;
+    let top = &mut **middle;
     let below = &mut *low;
     let above = &mut *high;
     (below.lean, above.lean) = split(top.lean);
@@ -105,66 +105,55 @@ fn spread(mut low: Box<Node>, mut middle: Box<Node>, mut high: Box<Node>) -> Box
     mem::swap(&mut above.left, &mut top.right);
     hang(&mut top.left, low);
     hang(&mut top.right, high);
-    middle
 }
 
-/// The upper one of two nodes over the lower, which gets the right side of the upper for the left one that it
-/// lacks. Then they lean so.
+/// The upper one of two nodes in the place of the lower, which is a root, and over it: the lower gets the right side of
+/// the upper for the left one that it lacks. Then they lean so.
 #[inline(always)]
-fn raise_right(
-    mut upper: Box<Node>,
-    mut lower: Box<Node>,
-    upper_lean: Ordering,
-    lower_lean: Ordering,
-) -> Box<Node>
-    requires lacking { lower.value.left.entries ≡ [] }
-    requires below { IsLeaning upper.value.right (entry_in lower.value) lower.value.right lower_lean }
-    requires above { IsLeaning upper.value.left (entry_in upper.value) (over upper.value.right (entry_in lower.value) lower.value.right) upper_lean }
-    ensures even { IsEven result.value }
-    ensures tree { branch_of (Some result) ≡ over upper.value.left (entry_in upper.value) (over upper.value.right (entry_in lower.value) lower.value.right) }
+fn raise_right(root: &mut Box<Node>, upper: Box<Node>, upper_lean: Ordering, lower_lean: Ordering)
+    requires lacking { root.old.value.left.entries ≡ [] }
+    requires below { IsLeaning upper.value.right (entry_in root.old.value) root.old.value.right lower_lean }
+    requires above { IsLeaning upper.value.left (entry_in upper.value) (over upper.value.right (entry_in root.old.value) root.old.value.right) upper_lean }
+    ensures even { IsEven root.new.value }
+    ensures tree { under root.new.value ≡ over upper.value.left (entry_in upper.value) (over upper.value.right (entry_in root.old.value) root.old.value.right) }
 {
-    let top = &mut *upper;
+    let mut lower = mem::replace(root, upper);
+    let top = &mut **root;
     let below = &mut *lower;
     mem::swap(&mut below.left, &mut top.right);
     below.lean = lower_lean;
     hang(&mut top.right, lower);
     top.lean = upper_lean;
-    upper
 }
 
 /// The same where the lower gets the left side of the upper for the right one that it lacks.
 #[inline(always)]
-fn raise_left(
-    mut upper: Box<Node>,
-    mut lower: Box<Node>,
-    upper_lean: Ordering,
-    lower_lean: Ordering,
-) -> Box<Node>
-    requires lacking { lower.value.right.entries ≡ [] }
-    requires below { IsLeaning lower.value.left (entry_in lower.value) upper.value.left lower_lean }
-    requires above { IsLeaning (over lower.value.left (entry_in lower.value) upper.value.left) (entry_in upper.value) upper.value.right upper_lean }
-    ensures even { IsEven result.value }
-    ensures tree { branch_of (Some result) ≡ over (over lower.value.left (entry_in lower.value) upper.value.left) (entry_in upper.value) upper.value.right }
+fn raise_left(root: &mut Box<Node>, upper: Box<Node>, upper_lean: Ordering, lower_lean: Ordering)
+    requires lacking { root.old.value.right.entries ≡ [] }
+    requires below { IsLeaning root.old.value.left (entry_in root.old.value) upper.value.left lower_lean }
+    requires above { IsLeaning (over root.old.value.left (entry_in root.old.value) upper.value.left) (entry_in upper.value) upper.value.right upper_lean }
+    ensures even { IsEven root.new.value }
+    ensures tree { under root.new.value ≡ over (over root.old.value.left (entry_in root.old.value) upper.value.left) (entry_in upper.value) upper.value.right }
 {
-    let top = &mut *upper;
+    let mut lower = mem::replace(root, upper);
+    let top = &mut **root;
     let below = &mut *lower;
     mem::swap(&mut below.right, &mut top.left);
     below.lean = lower_lean;
     hang(&mut top.left, lower);
     top.lean = upper_lean;
-    upper
 }
 
 /// Brings a root into balance whose left side is a level higher than the root says. The result tells whether
 /// the sides then differ in height.
 #[inline(always)]
-pub fn lean_left(root: &mut Option<Box<Node>>) -> bool
-    requires tilted { TiltsLeft root.old }
-    ensures balanced { IsBalanced root.new }
-    ensures entries { (branch_of root.new).entries ≡ (branch_of root.old).entries }
-    ensures height { (branch_of root.new).height ≡ left_levels root.old + (if result then 1 else 0) }
+pub fn lean_left(root: &mut Box<Node>) -> bool
+    requires tilted { TiltsLeft root.old.value }
+    ensures even { IsEven root.new.value }
+    ensures entries { (under root.new.value).entries ≡ (under root.old.value).entries }
+    ensures height { (under root.new.value).height ≡ left_levels root.old.value + (if result then 1 else 0) }
 {
-    let Some(node) = root else { unreachable!() };
+    let node = &mut **root;
     match node.lean {
         Ordering::Less => {
             node.lean = Ordering::Equal;
@@ -180,13 +169,13 @@ pub fn lean_left(root: &mut Option<Box<Node>>) -> bool
 
 /// The same of a root whose right side is a level higher than the root says.
 #[inline(always)]
-pub fn lean_right(root: &mut Option<Box<Node>>) -> bool
-    requires tilted { TiltsRight root.old }
-    ensures balanced { IsBalanced root.new }
-    ensures entries { (branch_of root.new).entries ≡ (branch_of root.old).entries }
-    ensures height { (branch_of root.new).height ≡ right_levels root.old + (if result then 1 else 0) }
+pub fn lean_right(root: &mut Box<Node>) -> bool
+    requires tilted { TiltsRight root.old.value }
+    ensures even { IsEven root.new.value }
+    ensures entries { (under root.new.value).entries ≡ (under root.old.value).entries }
+    ensures height { (under root.new.value).height ≡ right_levels root.old.value + (if result then 1 else 0) }
 {
-    let Some(node) = root else { unreachable!() };
+    let node = &mut **root;
     match node.lean {
         Ordering::Greater => {
             node.lean = Ordering::Equal;
@@ -203,16 +192,13 @@ pub fn lean_right(root: &mut Option<Box<Node>>) -> bool
 /// Turns up the left side of a root, which is two levels higher than the right. The result tells whether the
 /// sides then differ in height.
 #[inline(never)]
-fn turn_right(root: &mut Option<Box<Node>>) -> bool
-    requires high { IsHighLeft root.old }
-    ensures balanced { IsBalanced root.new }
-    ensures entries { (branch_of root.new).entries ≡ (branch_of root.old).entries }
-    ensures height { (branch_of root.new).height ≡ left_levels root.old + (if result then 1 else 0) }
+fn turn_right(root: &mut Box<Node>) -> bool
+    requires high { IsHighLeft root.old.value }
+    ensures even { IsEven root.new.value }
+    ensures entries { (under root.new.value).entries ≡ (under root.old.value).entries }
+    ensures height { (under root.new.value).height ≡ left_levels root.old.value + (if result then 1 else 0) }
 {
-    let Some(mut node) = mem::replace(root, None) else {
-        unreachable!()
-    };
-    let Some(mut upper) = take_root(&mut node.left) else {
+    let Some(mut upper) = take_root(&mut root.left) else {
         unreachable!()
     };
     match upper.lean {
@@ -220,21 +206,16 @@ fn turn_right(root: &mut Option<Box<Node>>) -> bool
             let Some(middle) = take_root(&mut upper.right) else {
                 unreachable!()
             };
-            set_root(root, spread(upper, middle, node));
+            let high = mem::replace(root, middle);
+            spread(root, upper, high);
             false
         }
         Ordering::Equal => {
-            set_root(
-                root,
-                raise_right(upper, node, Ordering::Less, Ordering::Greater),
-            );
+            raise_right(root, upper, Ordering::Less, Ordering::Greater);
             true
         }
         Ordering::Greater => {
-            set_root(
-                root,
-                raise_right(upper, node, Ordering::Equal, Ordering::Equal),
-            );
+            raise_right(root, upper, Ordering::Equal, Ordering::Equal);
             false
         }
     }
@@ -243,38 +224,30 @@ fn turn_right(root: &mut Option<Box<Node>>) -> bool
 /// Turns up the right side of a root, which is two levels higher than the left. The result tells whether the
 /// sides then differ in height.
 #[inline(never)]
-fn turn_left(root: &mut Option<Box<Node>>) -> bool
-    requires high { IsHighRight root.old }
-    ensures balanced { IsBalanced root.new }
-    ensures entries { (branch_of root.new).entries ≡ (branch_of root.old).entries }
-    ensures height { (branch_of root.new).height ≡ right_levels root.old + (if result then 1 else 0) }
+fn turn_left(root: &mut Box<Node>) -> bool
+    requires high { IsHighRight root.old.value }
+    ensures even { IsEven root.new.value }
+    ensures entries { (under root.new.value).entries ≡ (under root.old.value).entries }
+    ensures height { (under root.new.value).height ≡ right_levels root.old.value + (if result then 1 else 0) }
 {
-    let Some(mut node) = mem::replace(root, None) else {
-        unreachable!()
-    };
-    let Some(mut upper) = take_root(&mut node.right) else {
+    let Some(mut upper) = take_root(&mut root.right) else {
         unreachable!()
     };
     match upper.lean {
         Ordering::Less => {
-            set_root(
-                root,
-                raise_left(upper, node, Ordering::Equal, Ordering::Equal),
-            );
+            raise_left(root, upper, Ordering::Equal, Ordering::Equal);
             false
         }
         Ordering::Equal => {
-            set_root(
-                root,
-                raise_left(upper, node, Ordering::Greater, Ordering::Less),
-            );
+            raise_left(root, upper, Ordering::Greater, Ordering::Less);
             true
         }
         Ordering::Greater => {
             let Some(middle) = take_root(&mut upper.left) else {
                 unreachable!()
             };
-            set_root(root, spread(node, middle, upper));
+            let low = mem::replace(root, middle);
+            spread(root, low, upper);
             false
         }
     }
@@ -303,37 +276,30 @@ pub fn uproot(root: &mut Option<Box<Node>>, taken: &mut Option<Box<Node>>) -> bo
     ensures uprooted { IsUprooted root.old taken.new (branch_of root.new) result }
 {
     let Some(node) = root else { unreachable!() };
-    let Node {
-        left,
-        key,
-        pid,
-        right,
-        ..
-    } = &mut **node;
+    let Node { left, right, .. } = &mut **node;
     if right.is_empty() {
         let left = mem::replace(left, Tree::empty());
         hand_out(root, left.root, taken);
         return true;
     }
-    raise_first(root, taken)
+    raise_first(node, taken)
 }
 
 /// The same where the root has a right side: it gets the first entry of that, whose node is spare then.
 #[inline(never)]
-fn raise_first(root: &mut Option<Box<Node>>, taken: &mut Option<Box<Node>>) -> bool
-    requires right { HasRight root.old }
-    requires balanced { IsBalanced root.old }
+fn raise_first(root: &mut Box<Node>, taken: &mut Option<Box<Node>>) -> bool
+    requires right { root.old.value.right.entries ≢ [] }
+    requires even { IsEven root.old.value }
     requires none { taken.old ≡ None }
-    ensures balanced { IsBalanced root.new }
-    ensures uprooted { IsUprooted root.old taken.new (branch_of root.new) result }
+    ensures even { IsEven root.new.value }
+    ensures uprooted { IsTakenIf root.old.value taken.new (under root.new.value) result }
 {
-    let Some(node) = root else { unreachable!() };
     let Node {
         key,
         pid,
         right,
         ..
-    } = &mut **node;
+    } = &mut **root;
     let lower = right.take_first(taken);
     let Some(first) = taken else { unreachable!() };
     *key = first.key;
