@@ -2,7 +2,7 @@
 
 ghost use Rattle.std.specs.Prelude.{◌≡◌, MatchResult, Ok, Err};
 
-use std::alloc::{AllocError, AllocFailed};
+use std::alloc::AllocFailed;
 use thiserror::Error;
 
 /// What is wrong with a line. Of a line on which more than one of these holds, the first is told.
@@ -43,16 +43,6 @@ pub(crate) fn on_line<T: Drop>(read: Result<T, BadKind>, line: u32) -> Result<T,
     match read {
         Ok(x) => Ok(x),
         Err(kind) => Err(ReadFault::Bad { line, kind }),
-    }
-}
-
-impl From<AllocError> for ReadFault {
-    ghost use Rattle.scenario_text.specs.declared.fault.ReadFault.TheVariants.{OutOfMemory};
-
-    ghost from_gives = { λ _ e. e ≡ OutOfMemory };
-
-    fn from(_: AllocError) -> Self {
-        ReadFault::OutOfMemory
     }
 }
 

@@ -6,11 +6,11 @@ ghost use Rattle.scenario_text.specs.Reading.{lent, read_in, Takes, line_as, ver
 
 use crate::fault::{BadKind, ReadFault, on_line};
 use crate::lines::Lines;
-use crate::number::parse_number;
+use crate::number::{parse_number, parse_u8};
 use crate::words::{is_word, slots};
 
 /// The greatest number of SMT siblings of a core. The least is 1.
-const MOST_SIBLINGS_IN_TEXT: u64 = 8;
+const MOST_SIBLINGS_IN_TEXT: u8 = 8;
 
 /// The greatest limit of tasks or cookies that live at once. The least is 1.
 const MOST_LIMIT: u64 = 256;
@@ -45,9 +45,7 @@ fn parse_siblings(words: &[&[u8]]) -> Result<u8, BadKind>
     ensures { result ≡ read_in siblings_reading (lent words.now) }
 {
     match *words {
-        [name, count] if is_word(name, "siblings") => {
-            Ok(parse_number(count, 1, MOST_SIBLINGS_IN_TEXT)? as u8)
-        }
+        [name, count] if is_word(name, "siblings") => parse_u8(count, 1, MOST_SIBLINGS_IN_TEXT),
         _ => Err(BadKind::Shape),
     }
 }

@@ -80,6 +80,22 @@ pub(crate) fn parse_number(word: &[u8], low: u64, high: u64) -> Result<u64, BadK
     Ok(number)
 }
 
+/// The same of a number of 32 bits.
+pub(crate) fn parse_u32(word: &[u8], low: u32, high: u32) -> Result<u32, BadKind>
+    ensures { MatchResult result (λ n. (is_number low high word.now ≡ true) × (n ≡ value word.now))
+        (λ kind. (is_number low high word.now ≡ false) × (kind ≡ Number)) }
+{
+    Ok(parse_number(word, low as u64, high as u64)? as u32)
+}
+
+/// And of one of 8 bits.
+pub(crate) fn parse_u8(word: &[u8], low: u8, high: u8) -> Result<u8, BadKind>
+    ensures { MatchResult result (λ n. (is_number low high word.now ≡ true) × (n ≡ value word.now))
+        (λ kind. (is_number low high word.now ≡ false) × (kind ≡ Number)) }
+{
+    Ok(parse_number(word, low as u64, high as u64)? as u8)
+}
+
 /// The number from `-below` to `above` that the word spells: where it is negative, `-` and the digits of
 /// its magnitude.
 #[tactic(auto, unfolding(crate::specs::Grammar::is_signed))]
@@ -108,5 +124,5 @@ pub(crate) fn parse_cpu(word: &[u8], siblings: u8) -> Result<Cpu, BadKind>
     ensures { MatchResult result (λ cpu. (is_number 0 (siblings - 1) word.now ≡ true) × (cpu ≡ value word.now))
         (λ kind. (is_number 0 (siblings - 1) word.now ≡ false) × (kind ≡ Number)) }
 {
-    Ok(parse_number(word, 0, siblings.saturating_sub(1) as u64)? as u8)
+    parse_u8(word, 0, siblings.saturating_sub(1))
 }

@@ -4,21 +4,21 @@
 ghost use Rattle.std.specs.Prelude.{◌≡◌, ◌&&◌, [], ◌∷◌, true, false, codes, MatchResult};
 ghost use Rattle.cs_types.specs.declared.event.Event.TheVariants.{Fork, Prctl, SetSched};
 ghost use Rattle.scenario_text.specs.declared.fault.BadKind.TheVariants.{Number};
-ghost use Rattle.scenario_text.specs.Grammar.{is_word, is_number, value, named_pid, child, policy};
+ghost use Rattle.scenario_text.specs.Grammar.{is_word, value, named_pid, child, policy};
 ghost use Rattle.scenario_text.specs.Reading.{parts, lent, read_in, policy_value, is_ask, ask_said, joined, sibling_readings, caller_readings, sibling_step, caller_step, step_line};
 
 use crate::fault::BadKind;
-use crate::number::{parse_cpu, parse_number, parse_signed};
+use crate::number::{parse_cpu, parse_number, parse_signed, parse_u8, parse_u32};
 use crate::task::{has_policy_shape, parse_policy};
-use crate::teach::parse_guard;
+use crate::teach::MOST_GUARD;
 use crate::words::is_word;
-use cs_types::{Actor, Ask, Cpu, Event, Pid, Step};
+use cs_types::{Actor, Ask, Cpu, Event, Step};
 
 /// The greatest number of a caller. The least is 0.
-pub(crate) const MOST_CALLER: u64 = 7;
+pub(crate) const MOST_CALLER: u8 = 7;
 
 /// The greatest pid that a caller may name, of a task or of none. The least is 1.
-pub(crate) const MOST_NAMED_PID: u64 = 999_999;
+pub(crate) const MOST_NAMED_PID: u32 = 999_999;
 
 /// How far below 0 the target of a `prctl` may be, a number of 32 bits with a sign.
 pub(crate) const MOST_TARGET_BELOW: u32 = 2_147_483_648;
@@ -28,14 +28,6 @@ pub(crate) const MOST_TARGET_ABOVE: u32 = 2_147_483_647;
 
 /// The greatest advance of the clock, in ns. The least is 1.
 pub(crate) const MOST_ADVANCE: u64 = 1_000_000_000;
-
-/// The pid of a task that a caller names.
-fn parse_named_pid(word: &[u8]) -> Result<Pid, BadKind>
-    ensures { MatchResult result (λ n. (is_number 1 999999 word.now ≡ true) × (n ≡ value word.now))
-        (λ kind. (is_number 1 999999 word.now ≡ false) × (kind ≡ Number)) }
-{
-    Ok(parse_number(word, 1, MOST_NAMED_PID)? as u32)
-}
 
 /// Whether the word says what a child is to be.
 fn has_child_shape(word: &[u8]) -> bool
@@ -50,7 +42,7 @@ fn parse_fork(caller: &[u8], child: &[u8]) -> Result<Event, BadKind>
         (λ event. (named_pid.is_right caller.now ≡ true) × (event ≡ Fork (value caller.now) (is_word child.now (codes "thread"))))
         (λ kind. (named_pid.is_right caller.now ≡ false) × (kind ≡ Number)) }
 {
-    let caller = parse_named_pid(caller)?;
+    let caller = parse_u32(caller, 1, MOST_NAMED_PID)?;
     let thread = is_word(child, "thread");
     Ok(Event::Fork { caller, thread })
 }
@@ -61,7 +53,7 @@ fn parse_setsched(pid: &[u8], said: &[u8]) -> Result<Event, BadKind>
         (λ event. (named_pid.is_right pid.now && policy.is_right said.now ≡ true) × (event ≡ SetSched (value pid.now) (policy_value said.now)))
         (λ kind. (named_pid.is_right pid.now && policy.is_right said.now ≡ false) × (kind ≡ Number)) }
 {
-    let (Ok(pid), Ok(policy)) = (parse_named_pid(pid), parse_policy(said)) else {
+    let (Ok(pid), Ok(policy)) = (parse_u32(pid, 1, MOST_NAMED_PID), parse_policy(said)) else {
         return Err(BadKind::Number);
     };
     Ok(Event::SetSched { pid, policy })
@@ -74,17 +66,17 @@ fn parse_ask(cmd: &[u8], target: &[u8], scope: &[u8], addr: &[u8]) -> Result<Ask
         (λ kind. (is_ask cmd.now target.now scope.now addr.now ≡ false) × (kind ≡ Number)) }
 {
     let (Ok(cmd), Ok(pid), Ok(scope), Ok(addr)) = (
-        parse_number(cmd, 0, u32::MAX as u64),
+        parse_u32(cmd, 0, u32::MAX),
         parse_signed(target, MOST_TARGET_BELOW, MOST_TARGET_ABOVE),
-        parse_number(scope, 0, u32::MAX as u64),
+        parse_u32(scope, 0, u32::MAX),
         parse_number(addr, 0, u64::MAX),
     ) else {
         return Err(BadKind::Number);
     };
     Ok(Ask {
-        cmd: cmd as u32,
+        cmd,
         pid: pid as i32,
-        scope: scope as u32,
+        scope,
         addr,
     })
 }
@@ -101,8 +93,10 @@ fn parse_prctl(
         (λ event. (named_pid.is_right caller.now && is_ask cmd.now target.now scope.now addr.now ≡ true) × (event ≡ Prctl (value caller.now) (ask_said cmd.now target.now scope.now addr.now)))
         (λ kind. (named_pid.is_right caller.now && is_ask cmd.now target.now scope.now addr.now ≡ false) × (kind ≡ Number)) }
 {
-    let (Ok(caller), Ok(ask)) = (parse_named_pid(caller), parse_ask(cmd, target, scope, addr))
-    else {
+    let (Ok(caller), Ok(ask)) = (
+        parse_u32(caller, 1, MOST_NAMED_PID),
+        parse_ask(cmd, target, scope, addr),
+    ) else {
         return Err(BadKind::Number);
     };
     Ok(Event::Prctl { caller, ask })
@@ -113,17 +107,17 @@ fn parse_short_call(name: &[u8], word: &[u8], siblings: u8) -> Result<Event, Bad
     ensures { result ≡ read_in (caller_readings siblings) (parts (name.now ∷ word.now ∷ [])) }
 {
     if is_word(name, "wake") {
-        parse_named_pid(word).map(Event::Wake)
+        Ok(Event::Wake(parse_u32(word, 1, MOST_NAMED_PID)?))
     } else if is_word(name, "advance") {
-        parse_number(word, 1, MOST_ADVANCE).map(Event::Advance)
+        Ok(Event::Advance(parse_number(word, 1, MOST_ADVANCE)?))
     } else if is_word(name, "offline") {
-        parse_cpu(word, siblings).map(Event::Offline)
+        Ok(Event::Offline(parse_cpu(word, siblings)?))
     } else if is_word(name, "online") {
-        parse_cpu(word, siblings).map(Event::Online)
+        Ok(Event::Online(parse_cpu(word, siblings)?))
     } else if is_word(name, "load") {
-        parse_guard(word).map(Event::Load)
+        Ok(Event::Load(parse_u8(word, 0, MOST_GUARD)?))
     } else if is_word(name, "unload") {
-        parse_guard(word).map(Event::Unload)
+        Ok(Event::Unload(parse_u8(word, 0, MOST_GUARD)?))
     } else {
         Err(BadKind::Shape)
     }
@@ -182,7 +176,7 @@ fn parse_caller_step(digits: &[u8], event: &[&[u8]], siblings: u8) -> Result<Ste
     ensures { result ≡ caller_step siblings digits.now (lent event.now) }
 {
     let event = parse_caller_event(event, siblings)?;
-    let caller = parse_number(digits, 0, MOST_CALLER)? as u8;
+    let caller = parse_u8(digits, 0, MOST_CALLER)?;
     Ok(Step {
         actor: Actor::Caller(caller),
         event,

@@ -3,22 +3,22 @@
 
 ghost use Rattle.std.specs.Prelude.{◌≡◌, ◌&&◌, [], ◌∷◌, true, false, codes, MatchResult};
 ghost use Rattle.scenario_text.specs.declared.fault.BadKind.TheVariants.{Number};
-ghost use Rattle.scenario_text.specs.Grammar.{is_word, is_number, is_signed, value, pid, id, flag, policy, creds_form, task_form};
+ghost use Rattle.scenario_text.specs.Grammar.{is_word, is_number, is_signed, value, flag, policy, creds_form, task_form};
 ghost use Rattle.scenario_text.specs.Reading.{lent, read_in, signed_value, flag_value, policy_value, creds_value, task_value};
 
 use crate::fault::BadKind;
-use crate::number::{parse_cpu, parse_flag, parse_number, parse_signed};
+use crate::number::{parse_cpu, parse_flag, parse_number, parse_signed, parse_u8, parse_u32};
 use crate::words::is_word;
-use cs_types::{Creds, Pid, Policy, TaskSpec};
+use cs_types::{Creds, Policy, TaskSpec};
 
 /// The greatest number of a task, a thread group or a process group. The least is 1.
-const MOST_PID: u64 = 9999;
+const MOST_PID: u32 = 9999;
 
 /// The greatest relative deadline, in ns. The least is 1.
 const MOST_DEADLINE: u64 = 1_000_000_000;
 
 /// The greatest priority of `SCHED_FIFO` and `SCHED_RR`. The least is 1.
-const MOST_PRIORITY: u64 = 99;
+const MOST_PRIORITY: u8 = 99;
 
 /// How far below 0 a nice value may be.
 const MOST_NICE_BELOW: u32 = 20;
@@ -27,15 +27,7 @@ const MOST_NICE_BELOW: u32 = 20;
 const MOST_NICE_ABOVE: u32 = 19;
 
 /// The greatest user or group id. The least is 0.
-const MOST_ID: u64 = 65535;
-
-/// A real-time priority.
-fn parse_priority(word: &[u8]) -> Result<u8, BadKind>
-    ensures { MatchResult result (λ n. (is_number 1 99 word.now ≡ true) × (n ≡ value word.now))
-        (λ kind. (is_number 1 99 word.now ≡ false) × (kind ≡ Number)) }
-{
-    Ok(parse_number(word, 1, MOST_PRIORITY)? as u8)
-}
+pub(crate) const MOST_ID: u32 = 65535;
 
 /// A nice value.
 fn parse_nice(word: &[u8]) -> Result<i8, BadKind>
@@ -66,9 +58,9 @@ pub(crate) fn parse_policy(word: &[u8]) -> Result<Policy, BadKind>
     } else if let Some(relative) = word.strip_prefix(b"dl:") {
         parse_number(relative, 1, MOST_DEADLINE).map(Policy::Deadline)
     } else if let Some(priority) = word.strip_prefix(b"fifo:") {
-        parse_priority(priority).map(Policy::Fifo)
+        parse_u8(priority, 1, MOST_PRIORITY).map(Policy::Fifo)
     } else if let Some(priority) = word.strip_prefix(b"rr:") {
-        parse_priority(priority).map(Policy::Rr)
+        parse_u8(priority, 1, MOST_PRIORITY).map(Policy::Rr)
     } else if let Some(nice) = word.strip_prefix(b"fair:") {
         parse_nice(nice).map(Policy::Fair)
     } else {
@@ -76,54 +68,27 @@ pub(crate) fn parse_policy(word: &[u8]) -> Result<Policy, BadKind>
     }
 }
 
-/// A task, a thread group or a process group.
-fn parse_pid(word: &[u8]) -> Result<Pid, BadKind>
-    ensures { MatchResult result (λ n. (is_number 1 9999 word.now ≡ true) × (n ≡ value word.now))
-        (λ kind. (is_number 1 9999 word.now ≡ false) × (kind ≡ Number)) }
-{
-    Ok(parse_number(word, 1, MOST_PID)? as u32)
-}
-
-/// A user or a group.
-pub(crate) fn parse_id(word: &[u8]) -> Result<u32, BadKind>
-    ensures { MatchResult result (λ n. (is_number 0 65535 word.now ≡ true) × (n ≡ value word.now))
-        (λ kind. (is_number 0 65535 word.now ≡ false) × (kind ≡ Number)) }
-{
-    Ok(parse_number(word, 0, MOST_ID)? as u32)
-}
-
-/// A task, its thread group and its process group.
-fn parse_pids(task: &[u8], group: &[u8], process_group: &[u8]) -> Result<(Pid, Pid, Pid), BadKind>
+/// Three numbers from `low` to `high`.
+fn parse_three(
+    first: &[u8],
+    second: &[u8],
+    third: &[u8],
+    low: u32,
+    high: u32,
+) -> Result<(u32, u32, u32), BadKind>
     ensures { MatchResult result
-        (λ said. (pid.is_right task.now && pid.is_right group.now && pid.is_right process_group.now ≡ true)
-        × (said ≡ (value task.now, value group.now, value process_group.now)))
-        (λ kind. (pid.is_right task.now && pid.is_right group.now && pid.is_right process_group.now ≡ false) × (kind ≡ Number)) }
+        (λ said. (is_number low high first.now && is_number low high second.now && is_number low high third.now ≡ true)
+        × (said ≡ (value first.now, value second.now, value third.now)))
+        (λ kind. (is_number low high first.now && is_number low high second.now && is_number low high third.now ≡ false) × (kind ≡ Number)) }
 {
-    let (Ok(task), Ok(group), Ok(process_group)) = (
-        parse_pid(task),
-        parse_pid(group),
-        parse_pid(process_group),
+    let (Ok(first), Ok(second), Ok(third)) = (
+        parse_u32(first, low, high),
+        parse_u32(second, low, high),
+        parse_u32(third, low, high),
     ) else {
         return Err(BadKind::Number);
     };
-    Ok((task, group, process_group))
-}
-
-/// Three users, or three groups: the real, the effective and the saved.
-fn parse_ids(real: &[u8], effective: &[u8], saved: &[u8]) -> Result<(u32, u32, u32), BadKind>
-    ensures { MatchResult result
-        (λ said. (id.is_right real.now && id.is_right effective.now && id.is_right saved.now ≡ true)
-        × (said ≡ (value real.now, value effective.now, value saved.now)))
-        (λ kind. (id.is_right real.now && id.is_right effective.now && id.is_right saved.now ≡ false) × (kind ≡ Number)) }
-{
-    let (Ok(real), Ok(effective), Ok(saved)) = (
-        parse_id(real),
-        parse_id(effective),
-        parse_id(saved),
-    ) else {
-        return Err(BadKind::Number);
-    };
-    Ok((real, effective, saved))
+    Ok((first, second, third))
 }
 
 /// The three flags of a task.
@@ -148,8 +113,8 @@ fn parse_creds(words: &[&[u8]]) -> Result<Creds, BadKind>
         return Err(BadKind::Shape);
     };
     let (Ok((ruid, euid, suid)), Ok((rgid, egid, sgid)), Ok((cap, mm, dumpable))) = (
-        parse_ids(ruid, euid, suid),
-        parse_ids(rgid, egid, sgid),
+        parse_three(ruid, euid, suid, 0, MOST_ID),
+        parse_three(rgid, egid, sgid, 0, MOST_ID),
         parse_flags(cap, mm, dumpable),
     ) else {
         return Err(BadKind::Number);
@@ -181,7 +146,7 @@ pub(crate) fn parse_task(words: &[&[u8]], siblings: u8) -> Result<TaskSpec, BadK
     // Before the numbers in front of them, since the line has its shape only where there are nine of these.
     let creds = parse_creds(creds)?;
     let (Ok((pid, tgid, pgid)), Ok(cpu), Ok(policy)) = (
-        parse_pids(pid, tgid, pgid),
+        parse_three(pid, tgid, pgid, 1, MOST_PID),
         parse_cpu(cpu, siblings),
         parse_policy(policy),
     ) else {

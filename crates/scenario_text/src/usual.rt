@@ -71,9 +71,10 @@ fn sibling_event(text: &[u8], cpu: Cpu) -> Option<(Event, &[u8])>
         Some((Event::Tick(cpu), rest))
     } else if let Some(rest) = behind(text, b"resched\n") {
         Some((Event::Resched(cpu), rest))
-    } else {
-        let rest = behind(text, b"exit\n")?;
+    } else if let Some(rest) = behind(text, b"exit\n") {
         Some((Event::Exit(cpu), rest))
+    } else {
+        None
     }
 }
 
@@ -123,7 +124,7 @@ fn number_before(text: &[u8], end: u8, low: u64, high: u64) -> Option<(u64, &[u8
 fn wake_event(text: &[u8]) -> Option<(Event, &[u8])>
     ensures { (siblings : ℕ) → IfSome result (λ read. BeginsCall siblings (codes "wake " ++ text.now) read.0 read.1.now) }
 {
-    let (pid, rest) = number_before(text, b'\n', 1, MOST_NAMED_PID)?;
+    let (pid, rest) = number_before(text, b'\n', 1, MOST_NAMED_PID as u64)?;
     Some((Event::Wake(pid as u32), rest))
 }
 
@@ -143,8 +144,10 @@ fn last_child(text: &[u8]) -> Option<(bool, &[u8])>
 {
     if let Some(rest) = behind(text, b"thread\n") {
         Some((true, rest))
+    } else if let Some(rest) = behind(text, b"process\n") {
+        Some((false, rest))
     } else {
-        Some((false, behind(text, b"process\n")?))
+        None
     }
 }
 
@@ -153,7 +156,7 @@ fn last_child(text: &[u8]) -> Option<(bool, &[u8])>
 fn fork_event(text: &[u8]) -> Option<(Event, &[u8])>
     ensures { (siblings : ℕ) → IfSome result (λ read. BeginsCall siblings (codes "fork " ++ text.now) read.0 read.1.now) }
 {
-    let (caller, child) = number_before(text, b' ', 1, MOST_NAMED_PID)?;
+    let (caller, child) = number_before(text, b' ', 1, MOST_NAMED_PID as u64)?;
     let (thread, rest) = last_child(child)?;
     let caller = caller as u32;
     Some((Event::Fork { caller, thread }, rest))
@@ -183,7 +186,7 @@ fn last_ask(text: &[u8]) -> Option<(Ask, &[u8])>
 fn prctl_event(text: &[u8]) -> Option<(Event, &[u8])>
     ensures { (siblings : ℕ) → IfSome result (λ read. BeginsCall siblings (codes "prctl " ++ text.now) read.0 read.1.now) }
 {
-    let (caller, asked) = number_before(text, b' ', 1, MOST_NAMED_PID)?;
+    let (caller, asked) = number_before(text, b' ', 1, MOST_NAMED_PID as u64)?;
     let (ask, rest) = last_ask(asked)?;
     let caller = caller as u32;
     Some((Event::Prctl { caller, ask }, rest))
@@ -204,7 +207,7 @@ fn last_policy(text: &[u8]) -> Option<(Policy, &[u8])>
 fn setsched_event(text: &[u8]) -> Option<(Event, &[u8])>
     ensures { (siblings : ℕ) → IfSome result (λ read. BeginsCall siblings (codes "setsched " ++ text.now) read.0 read.1.now) }
 {
-    let (pid, said) = number_before(text, b' ', 1, MOST_NAMED_PID)?;
+    let (pid, said) = number_before(text, b' ', 1, MOST_NAMED_PID as u64)?;
     let (policy, rest) = last_policy(said)?;
     let pid = pid as u32;
     Some((Event::SetSched { pid, policy }, rest))
@@ -231,8 +234,10 @@ fn caller_event(text: &[u8], siblings: u8) -> Option<(Event, &[u8])>
     } else if let Some(words) = behind(text, b"offline ") {
         let (cpu, rest) = digit_before(words, b'\n', siblings - 1)?;
         Some((Event::Offline(cpu), rest))
+    } else if let Some(words) = behind(text, b"sets") {
+        setsched_event(behind(words, b"ched ")?)
     } else {
-        setsched_event(behind(behind(text, b"sets")?, b"ched ")?)
+        None
     }
 }
 
@@ -250,7 +255,7 @@ fn first_actor(text: &[u8], siblings: u8) -> Option<(Actor, &[u8])>
     let number = digit.wrapping_sub(b'0');
     if letter == b's' && number < siblings {
         Some((Actor::Sibling(number), rest))
-    } else if letter == b'c' && number as u64 <= MOST_CALLER {
+    } else if letter == b'c' && number <= MOST_CALLER {
         Some((Actor::Caller(number), rest))
     } else {
         None

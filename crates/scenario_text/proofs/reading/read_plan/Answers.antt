@@ -137,3 +137,10 @@ returns c =
     let taken = taken_line (next_of head plan lines) rest 0 c.next_line.result c.next_line.ensures _ c.in-Ok.is in
     let next = next_good head c.requires.head plan so_far.is lines forms.End rest (taken ∙ ap (λ (line : ScenarioLine). Ok (line, rest)) c.in-End.is) in
     complete head c.requires.head c.args.lines.now plan lines so_far rest next (sym c.if-not-is_empty.ensures)
+
+pub next_line-requires-clause-few : goal.next_line-requires-clause-few
+next_line-requires-clause-few c =
+    let head = c.args.head in
+    let taken_steps = so_far_taken head c.requires.head c.args.lines.now (contents c.loop-plan.plan) c.loop-plan.lines c.loop-plan.invariant _ _ c.in_ok-take_usual_steps.ensures in
+    let is = taken_steps.0.is in
+    record { tasks = omega (arith, is.few_tasks); teaches = is.few_teaches; steps = is.few_steps }

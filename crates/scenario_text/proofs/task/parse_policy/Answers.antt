@@ -16,14 +16,14 @@ returns-in-Some-strip_prefix c =
     let found = c.in-Some-strip_prefix in
     let digits = found.priority.now in
     rw (sym c.if-is_word.ensures, c.in_default.ensures.cases, found.ensures.cases.0, sym found.ensures.cases.1)
-    (made c.parse_priority.result c.map-in-Some-strip_prefix.result (is_number 1 99 digits) (value digits) Fifo c.parse_priority.ensures c.map-in-Some-strip_prefix.ensures.cases)
+    (made c.parse_u8.result c.map-in-Some-strip_prefix.result (is_number 1 99 digits) (value digits) Fifo c.parse_u8.ensures c.map-in-Some-strip_prefix.ensures.cases)
 
 pub returns-in-Some-strip_prefix-2 : goal.returns-in-Some-strip_prefix-2
 returns-in-Some-strip_prefix-2 c =
     let found = c.in-Some-strip_prefix-2 in
     let digits = found.priority.now in
     rw (sym c.if-is_word.ensures, c.in_default.ensures.cases, c.in_default-strip_prefix.ensures.cases, found.ensures.cases.0, sym found.ensures.cases.1)
-    (made c.parse_priority-in-Some-strip_prefix-2.result c.map-in-Some-strip_prefix-2.result (is_number 1 99 digits) (value digits) Rr c.parse_priority-in-Some-strip_prefix-2.ensures c.map-in-Some-strip_prefix-2.ensures.cases)
+    (made c.parse_u8-in-Some-strip_prefix-2.result c.map-in-Some-strip_prefix-2.result (is_number 1 99 digits) (value digits) Rr c.parse_u8-in-Some-strip_prefix-2.ensures c.map-in-Some-strip_prefix-2.ensures.cases)
 
 pub returns-in-Some-strip_prefix-3 : goal.returns-in-Some-strip_prefix-3
 returns-in-Some-strip_prefix-3 c =

@@ -17,7 +17,7 @@ returns-in_default-2-3 c =
     let words = lent c.args.words.now in
     let creds = creds_are (after 6 words) _ (c.in_ok-creds.ensures ∙ ap creds_read (lent-rest 6 c.args.words.now)) in
     let shape = task_shape c.args.siblings words c.in-len6-up.len_at_least c.requires (sym c.if-not-has_policy_shape.ensures) ∙ creds.shape in
-    wrong_of_three (task_form c.args.siblings) task_value words 1 2 3 _ _ _ shape refl refl refl refl refl refl (refused _ _ _ _ c.parse_pids.ensures c.in_default-2.is-0)
+    wrong_of_three (task_form c.args.siblings) task_value words 1 2 3 _ _ _ shape refl refl refl refl refl refl (refused _ _ _ _ c.parse_three.ensures c.in_default-2.is-0)
 
 pub returns-in_default-2-2 : goal.returns-in_default-2-2
 returns-in_default-2-2 c =
@@ -37,7 +37,7 @@ pub returns : goal.returns
 returns c =
     let words = lent c.args.words.now in
     let creds = creds_are (after 6 words) _ (c.in_ok-creds.ensures ∙ ap creds_read (lent-rest 6 c.args.words.now)) in
-    let pids = found _ _ _ _ c.parse_pids.ensures c.in-Ok-Ok-Ok.is-0 in
+    let pids = found _ _ _ _ c.parse_three.ensures c.in-Ok-Ok-Ok.is-0 in
     let cpu = found _ _ _ _ c.parse_cpu.ensures c.in-Ok-Ok-Ok.is-1 in
     let said = found _ _ _ _ c.parse_policy.ensures c.in-Ok-Ok-Ok.is-2 in
     right_task c.args.siblings words c.in-len6-up.len_at_least c.requires (sym c.if-not-has_policy_shape.ensures) _ creds pids.0 cpu.0 said.0

@@ -13,5 +13,5 @@ returns-in-Some-behind-2 c siblings own = record { is = record { event = own; ac
 pub returns-in-Some-behind-3 : goal.returns-in-Some-behind-3
 returns-in-Some-behind-3 c siblings own = record { is = record { event = own; actor = refl }; spelled = c.in-Some-behind-3.ensures }
 
-pub returns-in_ok-rest : goal.returns-in_ok-rest
-returns-in_ok-rest c siblings own = record { is = record { event = own; actor = refl }; spelled = c.in_ok-rest.ensures }
+pub returns-in-Some-behind-4 : goal.returns-in-Some-behind-4
+returns-in-Some-behind-4 c siblings own = record { is = record { event = own; actor = refl }; spelled = c.in-Some-behind-4.ensures }

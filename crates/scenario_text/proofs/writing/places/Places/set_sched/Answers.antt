@@ -1,0 +1,5 @@
+use Rattle.std.proofs.Common.{append_assoc}
+use Rattle.scenario_text.proofs.writing.places.Places.set_sched.Goals as goal
+
+pub returns-clause-text : goal.returns-clause-text
+returns-clause-text c = rw (c.policy.ensures.text, c.text-at.ensures.text, c.pid-at.ensures.text) (simp append_assoc)
