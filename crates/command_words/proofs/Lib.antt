@@ -1,2 +1,5 @@
+pub mod Plain
+pub mod Parses
+pub mod Read
 pub mod Found
 pub mod Seeds

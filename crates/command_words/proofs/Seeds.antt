@@ -2,7 +2,7 @@
 use Rattle.std.proofs.Common.{◌≡◌, refl, ap, ℕ, zero, suc, ◌<◌, ◌≤◌, ◌^◌, ◌==◌, arith, get_or, false, List, [], ◌∷◌, decimal}
 use Rattle.std.proofs.lemmas.Bool.Decides.{nat_tests}
 use Rattle.std.proofs.lemmas.Fmt.{decimal_digit, first_decimal}
-use Rattle.plain_words.specs.Forms.{is_option}
+use Rattle.command_words.specs.Forms.{is_option}
 
 plain_digit : (byte : ℕ) → 48 ≤ byte → (byte == 45) ≡ false
 plain_digit byte at_least = grind (arith, nat_tests)

@@ -3,10 +3,10 @@
 ghost use Rattle.std.specs.Prelude.{◌≡◌, ◌↔◌, ℕ, IsTrue, Some, option_map};
 ghost use Rattle.command_words.specs.declared.command.Command.TheVariants.{Replay, Drill};
 ghost use Rattle.command_words.specs.Asks.{Asks, HasSeed, words_of};
-ghost use Rattle.plain_words.specs.Forms.{words_by};
+ghost use Rattle.command_words.specs.Forms.{words_by};
 
+use crate::forms::{CommandForm, read_words};
 use crate::seed::canonical;
-use plain_words::{CommandForm, read_words};
 use std::alloc::Global;
 
 /// What the program is asked to do.

@@ -1,8 +1,11 @@
-//! The words of the command line: which command they ask for. It is separate, since it knows nothing of what the
-//! commands do.
+//! The words of a command line: how a program's commands are read, and which of its own `coresched` is asked for. It is
+//! separate, since it knows nothing of what the commands do, and since nothing else stands on the parser of words.
 #![tactic(auto)]
 
 mod command;
+mod forms;
+mod parser;
 mod seed;
 
 pub use command::{Command, command_of, drill_seed, is_replay};
+pub use forms::{CommandForm, read_words};

@@ -1,10 +1,10 @@
 //! The commands, each by its word.
 
 ghost use Rattle.std.specs.Prelude.{◌≡◌, ◌↔◌, [], ◌∷◌, Some, option_map};
-ghost use Rattle.plain_words.specs.Forms.{words_by};
+ghost use Rattle.command_words.specs.Forms.{words_by};
 ghost use Rattle.view_words.specs.Asks.{Asks, word_of};
 
-use plain_words::{CommandForm, read_words};
+use command_words::{CommandForm, read_words};
 use std::alloc::Global;
 
 /// What the program is asked to show of a run.

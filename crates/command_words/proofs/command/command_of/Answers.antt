@@ -1,5 +1,5 @@
 use Rattle.std.proofs.Common.{◌∙◌, sym}
-use Rattle.plain_words.proofs.Read.{read_are}
+use Rattle.command_words.proofs.Read.{read_are}
 use Rattle.command_words.proofs.command.command_of.Goals as goal
 
 pub returns : goal.returns

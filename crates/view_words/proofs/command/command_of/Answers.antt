@@ -1,5 +1,5 @@
 use Rattle.std.proofs.Common.{◌≡◌, ◌↔◌, subst, ℕ, Some, List, [], ◌∷◌}
-use Rattle.plain_words.proofs.Read.{read_are}
+use Rattle.command_words.proofs.Read.{read_are}
 use Rattle.view_words.specs.Asks.{word_of}
 use Rattle.view_words.proofs.command.command_of.Goals as goal
 

@@ -6,9 +6,9 @@ use Rattle.std.specs.String.{string_bytes}
 use Rattle.std.specs.Option.{option_map_or}
 use Rattle.std.proofs.lemmas.Bool.Decides.{nat_tests}
 use Rattle.clap.specs.Walk.{Text}
-use Rattle.plain_words.specs.declared.forms.CommandForm.{CommandForm}
-use Rattle.plain_words.specs.Forms.{fits, form_named, is_command, words_by, words_of}
-use Rattle.plain_words.proofs.forms.spelled.Goals as goal
+use Rattle.command_words.specs.declared.forms.CommandForm.{CommandForm}
+use Rattle.command_words.specs.Forms.{fits, form_named, is_command, words_by, words_of}
+use Rattle.command_words.proofs.forms.spelled.Goals as goal
 use mir.Val.{bool_byte}
 
 -- a name and some words are a command's where the form of the name, if there is one, is fit by them

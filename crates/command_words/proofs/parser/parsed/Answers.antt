@@ -5,8 +5,8 @@ use Rattle.clap.specs.Walk.{is_empty}
 use Rattle.clap.specs.Simple.{app_of}
 use Rattle.clap.specs.Values.{kind_of}
 use Rattle.clap.specs.declared.error.kind.ErrorKind.TheVariants.{OutOfMemory}
-use Rattle.plain_words.proofs.Parses.{said, unsaid}
-use Rattle.plain_words.proofs.parser.parsed.Goals as goal
+use Rattle.command_words.proofs.Parses.{said, unsaid}
+use Rattle.command_words.proofs.parser.parsed.Goals as goal
 
 pub returns-in-Ok : goal.returns-in-Ok
 returns-in-Ok c =

@@ -3,9 +3,9 @@ use Rattle.std.specs.Bool.{then_some}
 use Rattle.std.specs.List.{list_any}
 use Rattle.std.specs.String.{string_bytes}
 use Rattle.clap.specs.Walk.{Text}
-use Rattle.plain_words.specs.declared.forms.CommandForm.{CommandForm}
-use Rattle.plain_words.specs.Forms.{is_command, is_option, is_plain_command}
-use Rattle.plain_words.proofs.forms.read_words.Goals as goal
+use Rattle.command_words.specs.declared.forms.CommandForm.{CommandForm}
+use Rattle.command_words.specs.Forms.{is_command, is_option, is_plain_command}
+use Rattle.command_words.proofs.forms.read_words.Goals as goal
 
 -- words that begin with no `-` are a command's where they are one
 plain_is : (forms : List CommandForm) (words : List Text) (option : Bool) → option ≡ list_any is_option words → option ≡ false →

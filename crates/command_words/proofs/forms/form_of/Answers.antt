@@ -2,8 +2,8 @@ use Rattle.std.proofs.Common.{rules, tests, ◌∙◌}
 use Rattle.std.specs.Str.{bytes_eq}
 use Rattle.std.proofs.lemmas.Iterator.{YieldsList-from_slice}
 use Rattle.std.proofs.lemmas.Iterator.Search.{find_from_yields_List}
-use Rattle.plain_words.specs.declared.forms.CommandForm.{CommandForm}
-use Rattle.plain_words.proofs.forms.form_of.Goals as goal
+use Rattle.command_words.specs.declared.forms.CommandForm.{CommandForm}
+use Rattle.command_words.proofs.forms.form_of.Goals as goal
 
 pub returns : goal.returns
 returns c =

@@ -6,7 +6,7 @@ use Rattle.clap.specs.Walk.{Held, Names, Rule, Step, Text, Walk, idle, value, su
 use Rattle.clap.specs.Kinds.{or_else}
 use Rattle.clap.specs.Faults.{other_fault, step_fault, turn_fault}
 use Rattle.clap.specs.Simple.{Shape}
-use Rattle.plain_words.specs.Forms.{is_option}
+use Rattle.command_words.specs.Forms.{is_option}
 
 -- no byte is stripped
 unstripped : (word : Text) → is_option word ≡ false → strip_byte 45 word ≡ None

@@ -3,9 +3,9 @@ use Rattle.clap.specs.Walk.{Text, Row, first_of}
 use Rattle.clap.specs.Simple.{subcommand_rows_of}
 use Rattle.clap.specs.Matches.{found_of}
 use Rattle.clap.proofs.WalkLemmas.{first_value-rows}
-use Rattle.plain_words.specs.Forms.{words_by}
-use Rattle.plain_words.specs.Program.{words_met}
-use Rattle.plain_words.proofs.parser.matched.Goals as goal
+use Rattle.command_words.specs.Forms.{words_by}
+use Rattle.command_words.specs.Program.{words_met}
+use Rattle.command_words.proofs.parser.matched.Goals as goal
 
 -- a subcommand is met with its name and its rows
 met_with : (met : Option (Text × List Row)) (name : Text) (rows : List Row) → Some name ≡ option_map (λ one. one.0) met → Some rows ≡ option_map (λ one. one.1) met →

@@ -3,9 +3,9 @@ use Rattle.std.proofs.lemmas.List.{map_push, take_more}
 use Rattle.clap.specs.Walk.{Text, is_empty}
 use Rattle.clap.specs.Simple.{App, new_shape, with_subcommand}
 use Rattle.clap.proofs.SimpleLemmas.{not_empty}
-use Rattle.plain_words.specs.declared.forms.CommandForm.{CommandForm}
-use Rattle.plain_words.specs.Program.{command_of, program, strict}
-use Rattle.plain_words.proofs.parser.grammar.Goals as goal
+use Rattle.command_words.specs.declared.forms.CommandForm.{CommandForm}
+use Rattle.command_words.specs.Program.{command_of, program, strict}
+use Rattle.command_words.proofs.parser.grammar.Goals as goal
 
 -- one more command
 appended : (name : Text) (forms : List CommandForm) (form : CommandForm) →

@@ -3,8 +3,8 @@
 use Rattle.std.specs.Prelude.{Bool, true, List, [], ◌∷◌, map, codes, if◌then◌else◌}
 use Rattle.clap.specs.Walk.{Text, Row, Rule, first_of}
 use Rattle.clap.specs.Simple.{App, Shape, new_rule, new_shape}
-use Rattle.plain_words.specs.declared.forms.CommandForm.{CommandForm}
-use Rattle.plain_words.specs.Forms.{words_by}
+use Rattle.command_words.specs.declared.forms.CommandForm.{CommandForm}
+use Rattle.command_words.specs.Forms.{words_by}
 
 -- all words are the program's own, no word asks for help or for a version, and a command has to be named
 abbrev pub strict : Shape → Shape

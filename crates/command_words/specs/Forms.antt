@@ -5,7 +5,7 @@ use Rattle.std.specs.Option.{option_map_or}
 use Rattle.std.specs.Borrow.{Bor}
 use Rattle.std.specs.Str.{bytes_eq}
 use Rattle.clap.specs.Walk.{Text}
-use Rattle.plain_words.specs.declared.forms.CommandForm.{CommandForm}
+use Rattle.command_words.specs.declared.forms.CommandForm.{CommandForm}
 
 -- whether a word begins with `-` (45), so that a parser would look for an option
 abbrev pub is_option : Text → Bool

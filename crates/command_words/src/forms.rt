@@ -4,7 +4,7 @@ ghost use Rattle.std.specs.Prelude.{◌≡◌, map, option_map};
 ghost use Rattle.std.specs.Bool.{then_some};
 ghost use Rattle.std.specs.List.{list_any};
 ghost use Rattle.std.specs.String.{string_bytes};
-ghost use Rattle.plain_words.specs.Forms.{form_named, is_command, is_option, is_plain_command, words_of};
+ghost use Rattle.command_words.specs.Forms.{form_named, is_command, is_option, is_plain_command, words_of};
 
 use crate::parser::parsed;
 use std::alloc::Global;

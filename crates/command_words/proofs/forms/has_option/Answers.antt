@@ -3,8 +3,8 @@ use Rattle.std.specs.String.{string_bytes}
 use Rattle.std.proofs.lemmas.Iterator.{YieldsList-from_slice}
 use Rattle.std.proofs.lemmas.Iterator.Search.{any_from_yields_List}
 use Rattle.clap.proofs.WalkLemmas.{list_any-map}
-use Rattle.plain_words.specs.Forms.{is_option}
-use Rattle.plain_words.proofs.forms.has_option.Goals as goal
+use Rattle.command_words.specs.Forms.{is_option}
+use Rattle.command_words.proofs.forms.has_option.Goals as goal
 
 pub returns : goal.returns
 returns c =

@@ -19,10 +19,10 @@ use Rattle.clap.specs.declared.error.kind.ErrorKind.TheVariants.{OutOfMemory}
 use Rattle.clap.proofs.SimpleLemmas.{label_first}
 use Rattle.clap.proofs.WalkLemmas.{both}
 use Rattle.clap.proofs.OnLiterals.{clap_on_literals}
-use Rattle.plain_words.specs.declared.forms.CommandForm.{CommandForm}
-use Rattle.plain_words.specs.Forms.{fits, form_named, is_command, is_option, words_by}
-use Rattle.plain_words.specs.Program.{command_of, program, strict, words_met}
-use Rattle.plain_words.proofs.Plain.{ready, turn_of_plain, walk_of_plain}
+use Rattle.command_words.specs.declared.forms.CommandForm.{CommandForm}
+use Rattle.command_words.specs.Forms.{fits, form_named, is_command, is_option, words_by}
+use Rattle.command_words.specs.Program.{command_of, program, strict, words_met}
+use Rattle.command_words.proofs.Plain.{ready, turn_of_plain, walk_of_plain}
 
 -- ---- the grammar as it is built
 

@@ -7,8 +7,8 @@ ghost use Rattle.std.specs.String.{string_bytes};
 ghost use Rattle.clap.specs.declared.builder.command.Command.TheViews.{out-Command as fields_of};
 ghost use Rattle.clap.specs.Simple.{app_of, subcommand_rows_of};
 ghost use Rattle.clap.specs.Walk.{is_empty};
-ghost use Rattle.plain_words.specs.Forms.{is_command, is_option, words_of};
-ghost use Rattle.plain_words.specs.Program.{command_of, program as grammar_of, words_met};
+ghost use Rattle.command_words.specs.Forms.{is_command, is_option, words_of};
+ghost use Rattle.command_words.specs.Program.{command_of, program as grammar_of, words_met};
 
 use crate::forms::CommandForm;
 use clap::error::ErrorKind;

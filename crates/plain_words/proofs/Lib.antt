@@ -1,3 +1,0 @@
-pub mod Plain
-pub mod Parses
-pub mod Read
