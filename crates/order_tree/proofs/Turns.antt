@@ -11,13 +11,13 @@ use Rattle.order_tree.proofs.Forks.{Rising, turned-left, turned-right, rising-le
 -- ---- three nodes of which the middle one comes over the other two
 
 module _ {left right : Branch} {low high : Entry} {middle : Node} (can : CanSpread left low middle high right) where
-  below-spread : IsLeaning left low middle.left (split middle.lean).0
+  pub below-spread : IsLeaning left low middle.left (split middle.lean).0
   below-spread = record {
     sides = can.below;
     leans = leans-low middle.lean middle.left.height middle.right.height left.height can.lean (sym can.left_levels);
   }
 
-  above-spread : IsLeaning middle.right high right (split middle.lean).1
+  pub above-spread : IsLeaning middle.right high right (split middle.lean).1
   above-spread = record {
     sides = can.above;
     leans = leans-high middle.lean middle.left.height middle.right.height right.height can.lean (sym can.right_levels);
