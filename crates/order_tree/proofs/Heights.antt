@@ -1,5 +1,5 @@
 -- How many entries a tree of some height has, and so how high a tree of some entries is.
-use Rattle.std.proofs.Common.{◌≡◌, ℕ, zero, suc, ◌+◌, ◌*◌, ◌/◌, ◌≤◌, Bool, true, false, cond, max, inl, inr, ap, ◌∙◌, subst, arith}
+use Rattle.std.proofs.Common.{◌≡◌, ℕ, zero, suc, ◌+◌, ◌*◌, ◌/◌, ◌≤◌, Bool, true, false, not, cond, max, inl, inr, ap, ◌∙◌, subst, arith}
 use Rattle.std.proofs.lemmas.Bool.{cases_lt}
 use Rattle.cs_types.specs.Comparisons.{digits}
 use Rattle.cs_types.proofs.Comparisons.{digits-step}
@@ -68,3 +68,8 @@ level_lost before after is lost = is ∙ ap (λ b. after + cond b 1 0) lost
 
 pub no_more : (before after : ℕ) → before ≡ after → before ≡ after + 0
 no_more before after is = omega arith
+
+-- a tree a side of which is a level lower then, and which is so too unless it kept its height
+pub lowered : (before levels after : ℕ) (kept : Bool) → before ≡ levels + 1 → after ≡ levels + cond kept 1 0 → before ≡ after + cond (not kept) 1 0
+lowered before levels after true is kept_is = omega arith
+lowered before levels after false is kept_is = omega arith

@@ -1,5 +1,5 @@
 -- A tree that was taken apart: where a key goes, and what a change of a side makes of the whole.
-use Rattle.std.proofs.Common.{◌≡◌, ℕ, ◌+◌, ◌*◌, ◌<◌, ◌≤◌, Bool, true, false, cond, List, ◌∷◌, ◌++◌, Box, Option, None, Some, length, refl, sym, ap, ◌∙◌, subst, arith, length-append, MatchOption}
+use Rattle.std.proofs.Common.{◌≡◌, ℕ, ◌+◌, ◌*◌, ◌<◌, ◌≤◌, max, Bool, true, false, cond, List, ◌∷◌, ◌++◌, Box, Option, None, Some, length, refl, sym, ap, ◌∙◌, subst, arith, length-append, MatchOption}
 use Rattle.std.specs.Prelude.{is_some}
 use Rattle.std.specs.FinMap.{find, put, is_sorted}
 use Rattle.std.specs.Ordering.{is_lt}
@@ -130,6 +130,19 @@ module _ {whole : Branch} {node : Node} (at : IsNode whole node) (side : Branch)
   pub sinks-right : node.right.height ≡ side.height + 1 → Leans node.lean node.left.height (side.height + 1)
   sinks-right same = subst (λ h. Leans node.lean node.left.height h) same at.lean
 
+  -- the height of the whole by that of the side, where it is as high, and where it is a level lower
+  pub levels-left : side.height ≡ node.left.height → whole.height ≡ max side.height node.right.height + 1
+  levels-left same = omega (arith, at.root.fork.one_more)
+
+  pub levels-right : side.height ≡ node.right.height → whole.height ≡ max node.left.height side.height + 1
+  levels-right same = omega (arith, at.root.fork.one_more)
+
+  pub levels-sunk-left : node.left.height ≡ side.height + 1 → whole.height ≡ max (side.height + 1) node.right.height + 1
+  levels-sunk-left same = omega (arith, at.root.fork.one_more)
+
+  pub levels-sunk-right : node.right.height ≡ side.height + 1 → whole.height ≡ max node.left.height (side.height + 1) + 1
+  levels-sunk-right same = omega (arith, at.root.fork.one_more)
+
 module _ {whole left : Branch} {entry : Entry} {right : Branch} (root : IsRoot whole left entry right) where
   pub rising_of : is_sorted key_cmp whole.entries ≡ true
   rising_of = ap (is_sorted key_cmp) root.entries ∙ root.fork.sides.rising
@@ -139,6 +152,16 @@ module _ {whole left : Branch} {entry : Entry} {right : Branch} (root : IsRoot w
 
   pub many_of : HasMany whole
   many_of = subst (λ n. fewest whole.height ≤ n) (sym (ap length root.entries)) root.fork.many
+
+  -- a walk that takes a step at the root, and then goes through a side at most
+  pub counted-root : (before ticked : ℕ) → ticked ≡ before + 1 → ticked ≤ before + whole.height
+  counted-root before ticked one = omega (arith, root.fork.one_more)
+
+  pub counted-left : (before ticked after : ℕ) → ticked ≡ before + 1 → after ≤ ticked + left.height → after ≤ before + whole.height
+  counted-left before ticked after one count = omega (arith, root.fork.one_more)
+
+  pub counted-right : (before ticked after : ℕ) → ticked ≡ before + 1 → after ≤ ticked + right.height → after ≤ before + whole.height
+  counted-right before ticked after one count = omega (arith, root.fork.one_more)
 
   -- a tree is as high as its number of entries lets it be
   pub shallow_of : whole.height ≤ 2 * digits (length whole.entries)
@@ -251,3 +274,13 @@ pub left_of : (node : Node) (taken : Option (Box Node Global)) (after : Branch) 
     (after.entries ≡ node.left.entries ++ node.right.entries) × (option_map (λ (n : Box Node Global). n.value.pid) taken ≡ Some node.pid)
 left_of node None after lower t = absurd t
 left_of node (Some box) after lower t = (t.entries, ap Some t.pid)
+
+pub levels_of : (node : Node) (taken : Option (Box Node Global)) (after : Branch) (lower : Bool) → IsTakenIf node taken after lower →
+    max node.left.height node.right.height + 1 ≡ after.height + cond lower 1 0
+levels_of node None after lower t = absurd t
+levels_of node (Some box) after lower t = t.height
+
+-- what is in balance has many entries
+pub many_balanced : (root : Option (Box Node Global)) → IsBalanced root → HasMany (branch_of root)
+many_balanced None balanced = omega arith
+many_balanced (Some node) balanced = balanced.fork.many
