@@ -143,6 +143,13 @@ module _ {whole : Branch} {node : Node} (at : IsNode whole node) (side : Branch)
   pub levels-sunk-right : node.right.height ≡ side.height + 1 → whole.height ≡ max node.left.height (side.height + 1) + 1
   levels-sunk-right same = omega (arith, at.root.fork.one_more)
 
+  -- as high as the whole is what the node comes to where the side is a level higher, and the other grew too
+  pub levels-grown-left : side.height ≡ node.left.height + 1 → max side.height (node.right.height + 1) ≡ whole.height
+  levels-grown-left same = omega (arith, at.root.fork.one_more)
+
+  pub levels-grown-right : side.height ≡ node.right.height + 1 → max (node.left.height + 1) side.height ≡ whole.height
+  levels-grown-right same = omega (arith, at.root.fork.one_more)
+
 module _ {whole left : Branch} {entry : Entry} {right : Branch} (root : IsRoot whole left entry right) where
   pub rising_of : is_sorted key_cmp whole.entries ≡ true
   rising_of = ap (is_sorted key_cmp) root.entries ∙ root.fork.sides.rising
