@@ -6,7 +6,7 @@ use Rattle.std.specs.declared.cmp.Ordering.{Ordering}
 use Rattle.std.specs.declared.cmp.Ordering.TheVariants.{Less, Equal, Greater}
 use Rattle.order_tree.specs.Order.{Entry, key_cmp}
 use Rattle.order_tree.specs.Branch.{Branch}
-use Rattle.order_tree.specs.Balance.{entry_in, over, split, AreNear, Leans, HoldsSides, HasMany, IsFork, IsEven, IsLeaning}
+use Rattle.order_tree.specs.Balance.{entry_in, over, split, AreNear, Leans, HoldsSides, HasMany, IsFork, IsEven, IsLeaning, IsTilted}
 use Rattle.order_tree.specs.declared.tree.Node.{Node}
 use Rattle.order_tree.proofs.Entries.{is_sorted-front, is_sorted-back}
 use Rattle.order_tree.proofs.Heights.{fewest-fork}
@@ -64,6 +64,10 @@ IsEven-by {left} {entry} {right} {lean} is node left_is entry_is right_is lean_i
 
 pub many-leaning : {left : Branch} {entry : Entry} {right : Branch} {lean : Ordering} → IsLeaning left entry right lean → HasMany (over left entry right)
 many-leaning {left} {entry} {right} {lean} is = (IsFork-from left entry right lean is.sides is.leans).many
+
+-- a node of which a side is a level higher than it says, by how it leans
+pub tilted-lean : {node : Node} {l r : ℕ} {lean : Ordering} → IsTilted node l r → node.lean ≡ lean → Leans lean l r
+tilted-lean {l = l} {r = r} tilted is = subst (λ n. Leans n l r) is tilted.lean
 
 -- ---- the parts of entries that rise
 

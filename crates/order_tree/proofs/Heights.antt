@@ -73,3 +73,23 @@ no_more before after is = omega arith
 pub lowered : (before levels after : ℕ) (kept : Bool) → before ≡ levels + 1 → after ≡ levels + cond kept 1 0 → before ≡ after + cond (not kept) 1 0
 lowered before levels after true is kept_is = omega arith
 lowered before levels after false is kept_is = omega arith
+
+-- ---- the two sides of a node of which one is a level higher than the node says
+
+pub evened : (l r : ℕ) → l + 1 ≡ r + 1 → l ≡ r
+evened l r is = omega arith
+
+pub evened-left : (l r : ℕ) → l + 1 ≡ r + 1 → max l r + 1 ≡ max l (r + 1) + 0
+evened-left l r is = omega arith
+
+pub evened-right : (l r : ℕ) → l + 1 ≡ r + 1 → max l r + 1 ≡ max (l + 1) r + 0
+evened-right l r is = omega arith
+
+pub leant-left : (l r : ℕ) → l ≡ r + 1 → max l r + 1 ≡ max l (r + 1) + 1
+leant-left l r is = omega arith
+
+pub leant-right : (l r : ℕ) → l + 1 ≡ r → max l r + 1 ≡ max (l + 1) r + 1
+leant-right l r is = omega arith
+
+pub twice : (low high : ℕ) → high ≡ low + 1 + 1 → high ≡ low + 2
+twice low high is = omega arith
