@@ -1,5 +1,5 @@
 -- Nodes over two trees: what holds of them, and the lists that turning them keeps.
-use Rattle.std.proofs.Common.{◌≡◌, ℕ, ◌+◌, true, List, ◌∷◌, ◌++◌, length, max, refl, sym, ap, ◌∙◌, subst, append_assoc, arith, length-append}
+use Rattle.std.proofs.Common.{◌≡◌, ℕ, ◌+◌, true, List, [], ◌∷◌, ◌++◌, length, max, refl, sym, ap, ◌∙◌, subst, append_assoc, arith, length-append}
 use Rattle.std.proofs.lemmas.Bool.{and_parts}
 use Rattle.std.specs.FinMap.{is_sorted}
 use Rattle.std.specs.declared.cmp.Ordering.{Ordering}
@@ -61,6 +61,13 @@ IsEven-by {left} {entry} {right} {lean} is node left_is entry_is right_is lean_i
     (subst (λ l. IsLeaning l (entry_in node) node.right node.lean) (sym left_is)
     (subst (λ e. IsLeaning left e node.right node.lean) (sym entry_is)
     (subst (λ r. IsLeaning left entry r node.lean) (sym right_is) (subst (λ n. IsLeaning left entry right n) (sym lean_is) is))))
+
+-- a node with no sides
+pub IsEven-leaf : (node : Node) → node.left.entries ≡ [] → node.left.height ≡ 0 → node.right.entries ≡ [] → node.right.height ≡ 0 → node.lean ≡ Equal → IsEven node
+IsEven-leaf node no_left low_left no_right low_right lean =
+    let none : Branch = record { entries = []; height = 0 } in
+    let is : IsLeaning none (entry_in node) none Equal = record { sides = record { rising = refl; many_left = omega arith; many_right = omega arith }; leans = refl } in
+    IsEven-by is node (λ i. record { entries = no_left i; height = low_left i }) refl (λ i. record { entries = no_right i; height = low_right i }) lean
 
 pub many-leaning : {left : Branch} {entry : Entry} {right : Branch} {lean : Ordering} → IsLeaning left entry right lean → HasMany (over left entry right)
 many-leaning {left} {entry} {right} {lean} is = (IsFork-from left entry right lean is.sides is.leans).many
