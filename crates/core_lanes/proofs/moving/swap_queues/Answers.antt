@@ -1,4 +1,4 @@
-use Rattle.std.proofs.Common.{◌<◌, ◌++◌, ℕ, List, length, map, refl, sym, ap, ◌∙◌, subst, Some, arith}
+use Rattle.std.proofs.Common.{◌<◌, ◌≤◌, ◌++◌, ℕ, List, length, map, refl, sym, ap, ◌∙◌, subst, Some, arith}
 use Rattle.std.specs.Prelude.{slice_get}
 use Rattle.core_lanes.specs.declared.lane.Lane.{Lane}
 use Rattle.core_lanes.specs.Lanes.{lane_state}
@@ -17,6 +17,26 @@ turned one other old new is = record {
   second = is.first;
   rest = λ cpu first second. is.rest cpu second first;
 }
+
+pub split_at_mut-front-requires : goal.split_at_mut-front-requires
+split_at_mut-front-requires g c = elim c.if-one-other.branch [
+  | then-one-other w ↦ subst (λ (both : ℕ × ℕ). both.1 ≤ length c.args.lanes.now) (sym w.low-is) (omega (arith, c.requires.within.1))
+  | else-one-other w ↦ subst (λ (both : ℕ × ℕ). both.1 ≤ length c.args.lanes.now) (sym w.low-is) (omega (arith, c.requires.within.0))
+]
+
+pub bounds-front-low : goal.bounds-front-low
+bounds-front-low g c = subst (λ n. c.if-one-other.low.0 < n) (sym c.split_at_mut-front.ensures.front_len) (elim c.if-one-other.branch [
+  | then-one-other w ↦ subst (λ (both : ℕ × ℕ). both.0 < both.1) (sym w.low-is) w.if-one-other.true
+  | else-one-other w ↦ subst (λ (both : ℕ × ℕ). both.0 < both.1) (sym w.low-is) (omega (arith, w.if-one-other.false, c.requires.two))
+])
+
+pub bounds-back-0 : goal.bounds-back-0
+bounds-back-0 g c =
+    let below : c.if-one-other.low.1 < length c.args.lanes.now = elim c.if-one-other.branch [
+      | then-one-other w ↦ subst (λ (both : ℕ × ℕ). both.1 < length c.args.lanes.now) (sym w.low-is) c.requires.within.1
+      | else-one-other w ↦ subst (λ (both : ℕ × ℕ). both.1 < length c.args.lanes.now) (sym w.low-is) c.requires.within.0
+    ] in
+    omega (arith, below, c.split_at_mut-front.ensures.back_len)
 
 pub returns : goal.returns
 returns g c =

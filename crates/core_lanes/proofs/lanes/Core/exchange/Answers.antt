@@ -1,4 +1,4 @@
-use Rattle.std.proofs.Common.{◌≡◌, ◌≢◌, map, List, inl, inr, sym, subst, ap, ◌∙◌, length, arith}
+use Rattle.std.proofs.Common.{◌≡◌, ◌≢◌, ◌<◌, map, List, inl, inr, sym, subst, ap, ◌∙◌, length, arith}
 use Rattle.std.specs.Prelude.{slice_get, ◌==◌}
 use Rattle.std.specs.Global.{Vec}
 use Rattle.std.specs.Vec.{with_items}
@@ -18,6 +18,14 @@ use Rattle.core_lanes.proofs.lanes.Core.exchange.Goals as goal
 written : {Q : Type 0} (lanes : Vec (Lane Q)) (was now : List (Lane Q)) → was ≡ lanes.items → map lane_state now ≡ map lane_state was → (with_items lanes now).items ≡ now
 written lanes was now are states =
     items-as_many lanes now (sym (length-map now lane_state) ∙ ap length states ∙ length-map was lane_state ∙ ap length are)
+
+pub swap_queues-requires-clause-within : goal.swap_queues-requires-clause-within
+swap_queues-requires-clause-within g c =
+    let many = sym (ap length c.deref_mut.ensures.value) in
+    (subst (λ n. c.args.from < n) many c.requires.cpu, subst (λ n. c.args.to < n) many c.requires.other)
+
+pub index_mut-requires : goal.index_mut-requires
+index_mut-requires g c = omega (arith, c.args.self.now.lanes.ok.0, c.requires.other)
 
 pub renew-requires : goal.renew-requires
 renew-requires g c =

@@ -1,4 +1,5 @@
-use Rattle.std.proofs.Common.{◌≡◌, ◌<◌, ◌≤◌, ◌+◌, arith, refl, sym, subst, ap, ◌∙◌, length, map, true, cond}
+use Rattle.std.proofs.Common.{◌≡◌, ◌<◌, ◌≤◌, ◌+◌, ◌*◌, ◌^◌, arith, refl, sym, subst, ap, ◌∙◌, length, map, true, cond}
+use Rattle.std.proofs.lemmas.List.{length-map}
 use Rattle.cs_types.specs.declared.task.Task.{Task}
 use Rattle.cs_types.specs.Room.{has_pid}
 use Rattle.cs_types.proofs.Spots.{replaced_by}
@@ -6,7 +7,7 @@ use Rattle.task_table.specs.Table.{Table}
 use Rattle.core_lanes.specs.declared.queue.SiblingQueue.{Ghosts}
 use Rattle.core_lanes.specs.declared.lanes.Core.{Core}
 use Rattle.core_lanes.specs.Queued.{IsOf, HasOwnStamp}
-use Rattle.core_lanes.specs.Lanes.{AreHeldBut, Knows, MayWake}
+use Rattle.core_lanes.specs.Lanes.{BareCore, AreHeldBut, Knows, MayWake}
 use Rattle.core_lanes.specs.Numbers.{touched}
 use Rattle.core_lanes.proofs.Lists.{is_there, is_it}
 use Rattle.core_lanes.proofs.Queues.{others-absent, others-replaced, off_asleep}
@@ -112,3 +113,11 @@ returns-clause-touches g c =
       numbers = touch.numbers ∙ ap (touched 1) woke.numbers;
       stays = both_stay (stamped_later core (later core) before refl next) (both_stay woke.stays touch.stays);
     }
+
+pub touch-requires : goal.touch-requires
+touch-requires g c = subst (λ n. n + 1 < 2 ^ 64) (sym (ap (λ (b : BareCore). b.task_number) c.put.ensures.queues.bare)) c.requires.may.touches
+
+pub returns-clause-counted : goal.returns-clause-counted
+returns-clause-counted g c =
+    subst (λ n. c.put.new.steps ≤ c.args.steps.now + 1 * g.Q.SiblingQueue.most_compared n)
+    (ap (λ (table : Table). length table.tasks) c.queue_up.ensures.queued ∙ length-map _ _) c.put.ensures.counted
