@@ -46,3 +46,6 @@ returns-else-runs g c =
     let now = get_or lanes c.args.home c.index-lanes-home.result in
     flagged lanes c.args.home c.args.pid c.index-lanes-home.result c.requires.home c.requires.alone now.pending
     (sym (or-false now.pending) ∙ ap (λ b. now.pending || b) (sym c.if-runs.false ∙ c.runs.ensures))
+
+pub bounds-lanes-home : goal.bounds-lanes-home
+bounds-lanes-home g c = c.requires.home

@@ -70,3 +70,6 @@ returns g c =
         };
       },
     )
+
+pub fork-requires-clause-limit : goal.fork-requires-clause-limit
+fork-requires-clause-limit g c = c.requires.sound.limit

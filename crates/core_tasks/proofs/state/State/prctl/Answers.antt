@@ -1,4 +1,4 @@
-use Rattle.std.proofs.Common.{◌∙◌, sym, refl}
+use Rattle.std.proofs.Common.{◌∙◌, sym, refl, arith}
 use Rattle.prctl_core.specs.Plan.{IsRoomOf}
 use Rattle.cookie_refs.proofs.Agreements.{Agree-put}
 use Rattle.core_tasks.specs.State.{room_with}
@@ -62,3 +62,15 @@ returns-in-Answer-clause-makes g c = record {
     ends = refl;
   };
 }
+
+pub set_cookies-requires : goal.set_cookies-requires
+set_cookies-requires g c =
+    let sound = c.requires.sound in
+    record {
+      sound = record { agree = sound.agree; limit = sound.limit; user_top = sound.user_top; pids = sound.pids; ended = sound.ended; refs = c.in-Go.ensures.held };
+      own = c.requires.own;
+      touches = omega (arith, c.requires.touches);
+    }
+
+pub returns-in-Go-clause-counted : goal.returns-in-Go-clause-counted
+returns-in-Go-clause-counted g c = c.set_cookies.ensures.counted

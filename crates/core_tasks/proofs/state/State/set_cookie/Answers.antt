@@ -1,4 +1,4 @@
-use Rattle.std.proofs.Common.{◌≢◌, ◌≡◌, ◌∙◌, ◌+◌, refl, sym, ap, subst, map, length, arith}
+use Rattle.std.proofs.Common.{◌≢◌, ◌≡◌, ◌≤◌, ◌∙◌, ◌+◌, refl, sym, ap, subst, map, length, arith}
 use Rattle.std.specs.Prelude.{All}
 use Rattle.std.specs.Vec.{with_items}
 use Rattle.std.proofs.lemmas.List.{with_items_is}
@@ -112,3 +112,15 @@ flag_home-requires-clause-alone g c =
     let same = ap (map lane_state) c.deref_mut.ensures.value ∙ ap (λ (core : BareCore). core.siblings) c.set_cookie.ensures.replaces.bare in
     subst (RunsAtMostAt c.args.task.now.home c.args.task.now.spec.pid) (sym same)
     (runs_at_home (both c.args.self.now) c.args.task.now c.requires.may.own c.requires.there)
+
+pub set_cookie-requires-clause-there : goal.set_cookie-requires-clause-there
+set_cookie-requires-clause-there g c = c.requires.there
+
+pub invariant_of-self-2 : goal.invariant_of-self-2
+invariant_of-self-2 g c =
+    let mid = c.set_cookie.new.self in
+    let as_many = c.flag_home.auto.lanes ∙ ap length c.deref_mut.ensures.value in
+    record { few = subst (λ n. n ≤ 16) (sym (ap length (with_items_is mid.lanes c.flag_home.new.lanes (as_many ∙ sym mid.lanes.ok.0)) ∙ as_many)) mid.few }
+
+pub returns-clause-counted : goal.returns-clause-counted
+returns-clause-counted g c = c.set_cookie.ensures.counted

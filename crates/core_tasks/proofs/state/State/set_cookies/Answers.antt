@@ -33,3 +33,15 @@ returns-in-Process-clause-sets g c =
     let tasks = c.args.self.now.tasks.tasks in
     sets_alike c.args.self.now c.set_group-in-Process.new.self _ _ c.args.cookie
     (named_process _ c.in-Process.pgid tasks c.requires.sound.pids ∙ ap (λ to. named to tasks) (sym c.in-Process.is)) c.set_group-in-Process.ensures.sets
+
+pub set_group-requires : goal.set_group-requires
+set_group-requires g c = c.requires
+
+pub set_group-requires-in-Process : goal.set_group-requires-in-Process
+set_group-requires-in-Process g c = c.requires
+
+pub returns-in-Threads-clause-counted : goal.returns-in-Threads-clause-counted
+returns-in-Threads-clause-counted g c = c.set_group.ensures.counted
+
+pub returns-in-Process-clause-counted : goal.returns-in-Process-clause-counted
+returns-in-Process-clause-counted g c = c.set_group-in-Process.ensures.counted
