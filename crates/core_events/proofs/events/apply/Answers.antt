@@ -1,4 +1,5 @@
 use Rattle.std.proofs.Common.{◌≡◌, sym, subst, length, ℕ}
+use Rattle.std.proofs.Math.Nat.{le-add_right}
 use Rattle.cs_types.specs.declared.event.Event.{Event}
 use Rattle.cs_types.specs.declared.reply.Reply.{Reply}
 use Rattle.core_lanes.specs.declared.queue.SiblingQueue.{Ghosts}
@@ -78,3 +79,18 @@ advance-requires g c = record { event = subst (IsEvent (length c.args.state.now.
 
 pub set_policy-requires : goal.set_policy-requires
 set_policy-requires g c = record { event = subst (IsEvent (length c.args.state.now.core.lanes.items)) c.in-SetSched.is c.requires.event; ready = c.requires.ready }
+
+pub returns-in-Load-clause-makes : goal.returns-in-Load-clause-makes
+returns-in-Load-clause-makes g c = by_event c.in-Load.is c.load.ensures
+
+pub returns-in-Unload-clause-makes : goal.returns-in-Unload-clause-makes
+returns-in-Unload-clause-makes g c = by_event c.in-Unload.is c.unload.ensures
+
+pub returns-in-Online-clause-counted : goal.returns-in-Online-clause-counted
+returns-in-Online-clause-counted g c = le-add_right c.args.steps.now _
+
+pub returns-in-Load-clause-counted : goal.returns-in-Load-clause-counted
+returns-in-Load-clause-counted g c = le-add_right c.args.steps.now _
+
+pub returns-in-Unload-clause-counted : goal.returns-in-Unload-clause-counted
+returns-in-Unload-clause-counted g c = le-add_right c.args.steps.now _

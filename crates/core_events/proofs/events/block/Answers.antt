@@ -1,4 +1,5 @@
 use Rattle.std.proofs.Common.{◌≡◌, ◌+◌, ◌<◌, ◌^◌, ap, ◌∙◌, refl, sym, subst, Some, None, ◌*◌, length, arith}
+use Rattle.std.proofs.Math.Nat.{le-add_right}
 use Rattle.cs_types.specs.declared.event.Event.TheVariants.{Block}
 use Rattle.cs_types.specs.declared.reply.Reply.TheVariants.{Slept, Idle, Offline}
 use Rattle.cs_types.specs.declared.task.Task.{Task}
@@ -117,3 +118,12 @@ returns-clause-counted g c =
     (and_then 1 schedules (1 + schedules) (both old) _ _ _ refl
     (later rises 1 (c.charge.new.core, c.charge.new.table) (both old) _ _ (no_more_live charged) c.put_to_sleep.ensures.counted)
     (schedule_after rises (c.run_idle.new.self, c.put_to_sleep.new.table) (both old) _ _ (as_many_siblings idle) (no_more_live idle) c.pick_and_balance.ensures.counted))
+
+pub returns-then-not-is_online-clause-counted : goal.returns-then-not-is_online-clause-counted
+returns-then-not-is_online-clause-counted g c = le-add_right c.args.steps.now _
+
+pub returns-in_default-clause-counted : goal.returns-in_default-clause-counted
+returns-in_default-clause-counted g c = le-add_right c.args.steps.now _
+
+pub charge-requires : goal.charge-requires
+charge-requires g c = record { agree = c.requires.ready.sound.agree; paid = c.requires.ready.paid }

@@ -1,4 +1,5 @@
 use Rattle.std.proofs.Common.{◌≡◌, ◌+◌, ◌^◌, ◌<◌, ap, ◌∙◌, refl, sym, subst, false, [], Some, None, Bool, ◌*◌, ◌≤◌, length, arith}
+use Rattle.std.proofs.Math.Nat.{le-add_right}
 use Rattle.cs_types.specs.declared.event.Event.TheVariants.{Exit}
 use Rattle.cs_types.specs.declared.reply.Reply.TheVariants.{Ended, HasThreads, Idle, Offline}
 use Rattle.cs_types.specs.Room.{RoomState, has_pid, running_on}
@@ -136,3 +137,15 @@ returns-clause-counted g c =
     (later rises 2 (c.charge.new.core, c.charge.new.table) (both old) _ _ (no_more_live charged) c.end.ensures.counted)
     (schedule_after rises (c.run_idle.new.self, ended.tasks) (both old) _ _
     (as_many_siblings idle ∙ c.end.ensures.touches.stays.siblings ∙ as_many_siblings charged) fewer c.pick_and_balance.ensures.counted))
+
+pub returns-then-not-is_online-clause-counted : goal.returns-then-not-is_online-clause-counted
+returns-then-not-is_online-clause-counted g c = le-add_right c.args.steps.now _
+
+pub returns-in_default-clause-counted : goal.returns-in_default-clause-counted
+returns-in_default-clause-counted g c = le-add_right c.args.steps.now _
+
+pub returns-then-has_threads-clause-counted : goal.returns-then-has_threads-clause-counted
+returns-then-has_threads-clause-counted g c = le-add_right c.args.steps.now _
+
+pub charge-requires : goal.charge-requires
+charge-requires g c = record { agree = c.requires.ready.sound.agree; paid = c.requires.ready.paid }

@@ -1,11 +1,15 @@
 use Rattle.std.proofs.Common.{◌≡◌, ◌∙◌, ap, sym, subst, Bool, cond, true, false, eqb, ℕ, arith, ◌*◌, ◌+◌, length}
 use Rattle.std.proofs.lemmas.Bool.{cond-true, eq-eqb}
 use Rattle.cs_types.specs.declared.event.Event.TheVariants.{Turn, Resched}
+use Rattle.cs_types.specs.declared.reply.Pick.{Pick}
 use Rattle.cs_types.specs.declared.reply.Reply.TheVariants.{Picked, Nothing, Offline}
 use Rattle.cs_types.specs.Room.{RoomState, SiblingState, sibling_of}
 use Rattle.cs_types.specs.Selection.{schedule}
 use Rattle.cs_types.specs.Steal.{stolen}
 use Rattle.cs_types.specs.Step.{Stepped, step, turn, try_steal, picked, unless_offline}
+use Rattle.cookie_steal.specs.declared.steal.Try.{Try}
+use Rattle.cookie_steal.specs.declared.steal.Try.TheVariants.{Stole, Missed, NoBalance}
+use Rattle.cookie_steal.specs.Tries.{reply_of}
 use Rattle.core_lanes.specs.Numbers.{booked, is_fresh_by, with_ended}
 use Rattle.core_lanes.proofs.Stays.{lane_at}
 use Rattle.core_tasks.specs.State.{beside_of, room_with, state_numbers}
@@ -13,7 +17,7 @@ use Rattle.core_tasks.specs.Steps.{numbers_after}
 use Rattle.core_tasks.proofs.States.{uncharged, lifted, leaves_all, untouched}
 use Rattle.core_events.proofs.Onlines.{when_online, when_offline}
 use Rattle.core_events.proofs.Readies.{low_times, turn_as_resched, turn_touches}
-use Rattle.std.proofs.Math.Nat.{mul-le-mul_right, le-max_left, le-max_right}
+use Rattle.std.proofs.Math.Nat.{le-add_right, mul-le-mul_right, le-max_left, le-max_right}
 use Rattle.core_events.proofs.Compared.{for_event}
 use Rattle.core_events.proofs.events.turn.Goals as goal
 
@@ -113,3 +117,34 @@ returns-clause-counted g c =
     let old = c.args.state.now in
     let tasks = length old.tasks.tasks in
     for_event g.met.Q.SiblingQueue.rises (tasks + 4) old (Turn c.args.cpu) _ _ (le-max_right (2 * length old.core.lanes.items) (tasks + 4)) c.steal.ensures.counted
+
+-- a try to steal picks nothing
+never : (made : Try) (pick : Pick) → reply_of made ≡ Picked pick → ⊥
+never (Stole pid from) pick is = cc
+never (Missed from) pick is = cc
+never NoBalance pick is = cc
+
+pub returns-clause-scheduled : goal.returns-clause-scheduled
+returns-clause-scheduled g c pick is = absurd (never c.steal.ensures.tries.made pick (sym c.steal.ensures.tries.answer ∙ is))
+
+pub returns-then-lane-clause-scheduled : goal.returns-then-lane-clause-scheduled
+returns-then-lane-clause-scheduled g c pick is = c.resched.ensures.scheduled
+
+pub returns-then-lane-eq0-clause-scheduled : goal.returns-then-lane-eq0-clause-scheduled
+returns-then-lane-eq0-clause-scheduled g c pick is = absurd (never NoBalance pick is)
+
+-- nor does a sibling that is offline
+never_offline : (pick : Pick) → Offline ≡ Picked pick → ⊥
+never_offline pick is = cc
+
+pub returns-then-not-is_online-clause-scheduled : goal.returns-then-not-is_online-clause-scheduled
+returns-then-not-is_online-clause-scheduled g c pick is = absurd (never_offline pick is)
+
+pub resched-requires : goal.resched-requires
+resched-requires g c = c.requires
+
+pub returns-then-not-is_online-clause-counted : goal.returns-then-not-is_online-clause-counted
+returns-then-not-is_online-clause-counted g c = le-add_right c.args.steps.now _
+
+pub returns-then-lane-eq0-clause-counted : goal.returns-then-lane-eq0-clause-counted
+returns-then-lane-eq0-clause-counted g c = le-add_right c.args.steps.now _
