@@ -77,3 +77,9 @@ returns g c =
       | then-one-other w ↦ subst (λ (pair : ℕ × ℕ). Exchange pair.0 pair.1 lanes new) w.low-is is
       | else-one-other w ↦ turned c.args.other c.args.one lanes new (subst (λ (pair : ℕ × ℕ). Exchange pair.0 pair.1 lanes new) w.low-is is)
     ]
+
+pub offset_bounds-0 : goal.offset_bounds-0
+offset_bounds-0 g c = omega arith
+
+pub swap-requires : goal.swap-requires
+swap-requires g c κs lives = lives

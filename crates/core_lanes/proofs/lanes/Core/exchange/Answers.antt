@@ -4,6 +4,7 @@ use Rattle.std.specs.Global.{Vec}
 use Rattle.std.specs.Vec.{with_items}
 use Rattle.std.proofs.lemmas.Bool.{cases_Bool, eqb-true, eqb-false}
 use Rattle.std.proofs.lemmas.List.{map-set, length-map}
+use Rattle.std.proofs.Math.ListN.{length-set}
 use Rattle.std.proofs.Math.Seq.{map-set_same}
 use Rattle.core_lanes.specs.Queued.{queued_at}
 use Rattle.core_lanes.specs.Lanes.{lane_state, bare}
@@ -79,3 +80,13 @@ returns-clause-queues g c =
 pub returns-clause-counted : goal.returns-clause-counted
 returns-clause-counted g c =
     omega (arith, c.renew.ensures.counted, of_one g.Q.SiblingQueue.most_compared g.met.Q.SiblingQueue.rises c.args.table.now.tasks c.args.to)
+
+pub invariant_of-self : goal.invariant_of-self
+invariant_of-self g c =
+    let lanes = (with_items c.args.self.now.lanes c.swap_queues.new.lanes).items in
+    let swap = c.swap_queues.ensures in
+    let was = c.deref_mut.ensures.value in
+    let is = written c.args.self.now.lanes c.deref_mut.result.now c.swap_queues.new.lanes was swap.states in
+    let many : length lanes ≡ length c.args.self.now.lanes.items =
+    ap length is ∙ sym (length-map c.swap_queues.new.lanes lane_state) ∙ ap length swap.states ∙ length-map c.deref_mut.result.now lane_state ∙ ap length was in
+    record { few = omega (arith, length-set lanes c.args.to (record c.index_mut.result.now { queue = c.renew.new.self }), many, c.args.self.now.few) }
