@@ -73,3 +73,6 @@ returns g c =
 
 pub fork-requires-clause-limit : goal.fork-requires-clause-limit
 fork-requires-clause-limit g c = c.requires.sound.limit
+
+pub fork-requires-clause-agree : goal.fork-requires-clause-agree
+fork-requires-clause-agree g c = c.requires.sound.refs

@@ -1,4 +1,5 @@
 use Rattle.std.proofs.Common.{◌∙◌, sym, refl, arith}
+use Rattle.std.proofs.Math.Nat.{le-add_right}
 use Rattle.prctl_core.specs.Plan.{IsRoomOf}
 use Rattle.cookie_refs.proofs.Agreements.{Agree-put}
 use Rattle.core_tasks.specs.State.{room_with}
@@ -74,3 +75,18 @@ set_cookies-requires g c =
 
 pub returns-in-Go-clause-counted : goal.returns-in-Go-clause-counted
 returns-in-Go-clause-counted g c = c.set_cookies.ensures.counted
+
+pub plan-planned-requires-clause-agree : goal.plan-planned-requires-clause-agree
+plan-planned-requires-clause-agree g c = c.requires.sound.refs
+
+pub plan-planned-requires-clause-user_top : goal.plan-planned-requires-clause-user_top
+plan-planned-requires-clause-user_top g c = c.requires.sound.user_top
+
+pub plan-planned-requires-clause-serial : goal.plan-planned-requires-clause-serial
+plan-planned-requires-clause-serial g c = c.requires.serial
+
+pub plan-planned-requires-clause-asked : goal.plan-planned-requires-clause-asked
+plan-planned-requires-clause-asked g c = c.requires.asked
+
+pub returns-in-Answer-clause-counted : goal.returns-in-Answer-clause-counted
+returns-in-Answer-clause-counted g c = le-add_right c.args.steps.now _

@@ -1,4 +1,8 @@
-use Rattle.std.proofs.Common.{◌∙◌, sym, ap, ◌∷◌, []}
+use Rattle.std.proofs.Common.{◌∙◌, ◌≡◌, ◌≤◌, ℕ, List, Some, length, sym, ap, ◌∷◌, [], arith}
+use Rattle.std.specs.Prelude.{find}
+use Rattle.std.proofs.Math.Nat.{le-add_right, mul-le-mul_right}
+use Rattle.cs_types.specs.declared.task.Task.{Task}
+use Rattle.cs_types.specs.Room.{has_pid}
 use Rattle.task_table.proofs.Tables.{found_alone, found_none}
 use Rattle.prctl_core.specs.Plan.{named}
 use Rattle.core_tasks.proofs.Settings.{sets_none, sets_alike, named_threads, named_process}
@@ -45,3 +49,29 @@ returns-in-Threads-clause-counted g c = c.set_group.ensures.counted
 
 pub returns-in-Process-clause-counted : goal.returns-in-Process-clause-counted
 returns-in-Process-clause-counted g c = c.set_group-in-Process.ensures.counted
+
+pub set_cookie-requires : goal.set_cookie-requires
+set_cookie-requires g c = record {
+  may = record { sound = c.requires.sound; own = c.requires.own; touches = omega (arith, c.requires.touches) };
+  there = c.in-Some.ensures.there;
+}
+
+-- where a task was found, one lives
+one_lives : (pid : ℕ) (tasks : List Task) (task : Task) → find (has_pid pid) tasks ≡ Some task → 1 ≤ length tasks
+one_lives pid [] task is = absurd cc
+one_lives pid (first ∷ rest) task is = omega arith
+
+pub returns-in-Some-clause-counted : goal.returns-in-Some-clause-counted
+returns-in-Some-clause-counted g c =
+    let tasks = c.args.self.now.tasks.tasks in
+    omega (
+      arith,
+      c.set_cookie.ensures.counted,
+      mul-le-mul_right (g.Q.SiblingQueue.most_compared (length tasks)) (one_lives c.in-One.pid tasks c.in-Some.task (sym c.in-Some.ensures.task)),
+    )
+
+pub returns-in-Nobody-clause-counted : goal.returns-in-Nobody-clause-counted
+returns-in-Nobody-clause-counted g c = le-add_right c.args.steps.now _
+
+pub returns-in_default-clause-counted : goal.returns-in_default-clause-counted
+returns-in_default-clause-counted g c = le-add_right c.args.steps.now _
