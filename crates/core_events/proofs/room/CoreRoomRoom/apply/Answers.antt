@@ -1,9 +1,12 @@
 use Rattle.std.proofs.Common.{◌≡◌, ℕ, ◌≤◌, ◌*◌, ◌++◌, ◌∷◌, [], length, get_or, set, ap, sym, subst, ◌∙◌, arith}
-use Rattle.std.specs.Prelude.{IfSome, All, ◌+◌, ◌<◌, ◌^◌}
+use Rattle.std.specs.Prelude.{IfSome, All, ◌+◌, ◌<◌, ◌^◌, vec_len, vec_capacity}
 use Rattle.std.proofs.Math.Seq.{get_or-append_seam, set-append_seam}
 use Rattle.std.proofs.lemmas.List.{length-map}
 use Rattle.std.proofs.lemmas.List.Elements.{All-push, All-weaker}
-use Rattle.core_events.specs.Inside.{opening_of}
+use Rattle.core_events.specs.Inside.{opening_of, IsFold}
+use Rattle.core_events.specs.Ready.{IsReady}
+use Rattle.core_events.specs.declared.room.CoreRoom.TheInside.{Inside}
+use Rattle.core_lanes.specs.declared.queue.SiblingQueue.{Ghosts}
 use Rattle.cs_types.specs.Guards.{GuardState}
 use Rattle.cs_types.specs.declared.reply.Entry.{Entry}
 use Rattle.cs_types.specs.declared.reply.Reply.{Reply}
@@ -32,10 +35,9 @@ use Rattle.core_events.proofs.Machines.{folds_of, timely_with, of_states, histor
 use Rattle.task_table.specs.Table.{total_in}
 use Rattle.core_events.proofs.room.CoreRoomRoom.apply.Goals as goal
 
-pub counted-reply-requires-clause-may : goal.counted-reply-requires-clause-may
-counted-reply-requires-clause-may g c =
-    let a = c.self.inside in
-    let is = c.self.invariant in
+-- a machine that has a place left may take any event
+ready_of : {Q G : Type 0} {g : Ghosts Q} (a : Inside Q G g) → IsFold a → vec_len a.entries < vec_capacity a.entries → IsReady a.state
+ready_of {Q} a is spare =
     let opening = opening_of a in
     let past = a.entries.items in
     let tasks = is.playable.few_tasks in
@@ -47,51 +49,56 @@ counted-reply-requires-clause-may g c =
     let folds = folds_of a is in
     let accounted : IsAccounted 255 (length past) (account_of (fold_of opening past)) = accounted-fold_of 255 opening past (omega arith) (omega (arith, is.playable.siblings.1)) is.events in
     record {
-      event = subst (λ count. IsEvent count c.args.event) (sym is.siblings) (subst (λ (m : Machine). IsEvent m.opening.scenario.siblings c.args.event) (sym c.self.view_is) c.requires.event);
-      ready = record {
-        sound = is.sound;
-        time = record {
-          entries = length past;
-          few = omega (arith, few);
-          timely = λ intervals. subst (λ (room : RoomState). IsTimely (length past) room)
-              (sym (ap (λ (room : RoomState). let other : RoomState = record room { intervals = intervals } in other) is.fold))
-              (timely_with intervals (length past) (fold_of opening past) (timely-fold_of opening past));
-          clock = omega (arith, clock);
-        };
-        paid = record {
-          clock = omega (arith, clock);
-          started = subst (λ (r : RoomState). charged_up_to (account_of r) ≤ r.clock) (sym is.fold) accounted.started;
-          intervals = omega (arith, accounted.intervals, ap (λ (numbers : Numbers). numbers.intervals) is.numbers, few);
-          totals = λ pid. subst (λ (r : RoomState). total_in a.state.tasks pid ≤ 255 * charged_up_to (account_of r)) (sym is.fold)
-              (omega (arith, total_kept opening a.state past pid folds, accounted.totals pid));
-        };
-        own = own_run opening a.state past folds is.playable is.events legal;
-        behind = behind_of opening a.state past folds is.siblings is.playable is.events legal;
-        spares = record {
-          touches = omega (arith, task_number-ledger_of opening past tasks most, ap (λ (numbers : Numbers). numbers.task) is.numbers, few, living, most);
-          stamps = omega (arith, next_stamp-fold_of opening past tasks most, ap (λ (room : RoomState). room.next_stamp) is.fold, few, living, most);
-          serial = omega (arith, next_cookie-fold_of opening past tasks most, ap (λ (room : RoomState). room.next_cookie) is.fold, a.entries.ok.0);
-          pid = omega (arith, next_pid-fold_of opening past tasks most, ap (λ (room : RoomState). room.next_pid) is.fold, first_pid-low a.scenario.value is.playable, few);
-          ended = omega (
-            arith,
-            ended-fold_of opening past tasks most,
-            ap (λ (room : RoomState). length room.ended) is.fold,
-            length-map a.state.ended.items (λ (one : ℕ × ℕ). one.0),
-            a.entries.ok.0,
-            c.requires.spare,
-            ap (λ (m : Machine). m.spare) c.self.view_is,
-            is.ends,
-            is.few_entries,
-            a.state.ended.ok.0,
-          );
-          places = All-weaker (λ (lane : Lane g.row.Q.Denot). lane.place ≤ length past) (λ (lane : Lane g.row.Q.Denot). lane.place + 1 < 2 ^ 32)
-              (λ lane low. omega (arith, low, few)) a.state.core.lanes.items
-              (of_states (λ (sibling : SiblingState). sibling.place ≤ length past) a.state.core.lanes.items
-              (subst (λ (room : RoomState). All (λ (sibling : SiblingState). sibling.place ≤ length past) room.siblings) (sym is.fold) (places-fold_of opening past)));
-          asked = All-weaker (λ (guard : GuardState). guard.asked < 2 ^ 43) (λ (guard : GuardState). guard.asked < 2 ^ 62) (λ guard low. omega (arith, low)) a.state.guards.guards.all
-              (subst (λ (room : RoomState). All (λ (guard : GuardState). guard.asked < 2 ^ 43) room.guards.all) (sym is.fold) (asked-fold_of opening past tasks most (omega (arith, few))));
-        };
+      sound = is.sound;
+      time = record {
+        entries = length past;
+        few = omega (arith, few);
+        timely = λ intervals. subst (λ (room : RoomState). IsTimely (length past) room)
+            (sym (ap (λ (room : RoomState). let other : RoomState = record room { intervals = intervals } in other) is.fold))
+            (timely_with intervals (length past) (fold_of opening past) (timely-fold_of opening past));
+        clock = omega (arith, clock);
       };
+      paid = record {
+        clock = omega (arith, clock);
+        started = subst (λ (r : RoomState). charged_up_to (account_of r) ≤ r.clock) (sym is.fold) accounted.started;
+        intervals = omega (arith, accounted.intervals, ap (λ (numbers : Numbers). numbers.intervals) is.numbers, few);
+        totals = λ pid. subst (λ (r : RoomState). total_in a.state.tasks pid ≤ 255 * charged_up_to (account_of r)) (sym is.fold)
+            (omega (arith, total_kept opening a.state past pid folds, accounted.totals pid));
+      };
+      own = own_run opening a.state past folds is.playable is.events legal;
+      behind = behind_of opening a.state past folds is.siblings is.playable is.events legal;
+      spares = record {
+        touches = omega (arith, task_number-ledger_of opening past tasks most, ap (λ (numbers : Numbers). numbers.task) is.numbers, few, living, most);
+        stamps = omega (arith, next_stamp-fold_of opening past tasks most, ap (λ (room : RoomState). room.next_stamp) is.fold, few, living, most);
+        serial = omega (arith, next_cookie-fold_of opening past tasks most, ap (λ (room : RoomState). room.next_cookie) is.fold, a.entries.ok.0);
+        pid = omega (arith, next_pid-fold_of opening past tasks most, ap (λ (room : RoomState). room.next_pid) is.fold, first_pid-low a.scenario.value is.playable, few);
+        ended = omega (
+          arith,
+          ended-fold_of opening past tasks most,
+          ap (λ (room : RoomState). length room.ended) is.fold,
+          length-map a.state.ended.items (λ (one : ℕ × ℕ). one.0),
+          a.entries.ok.0,
+          spare,
+          is.ends,
+          is.few_entries,
+          a.state.ended.ok.0,
+        );
+        places = All-weaker (λ (lane : Lane Q). lane.place ≤ length past) (λ (lane : Lane Q). lane.place + 1 < 2 ^ 32)
+            (λ lane low. omega (arith, low, few)) a.state.core.lanes.items
+            (of_states (λ (sibling : SiblingState). sibling.place ≤ length past) a.state.core.lanes.items
+            (subst (λ (room : RoomState). All (λ (sibling : SiblingState). sibling.place ≤ length past) room.siblings) (sym is.fold) (places-fold_of opening past)));
+        asked = All-weaker (λ (guard : GuardState). guard.asked < 2 ^ 43) (λ (guard : GuardState). guard.asked < 2 ^ 62) (λ guard low. omega (arith, low)) a.state.guards.guards.all
+            (subst (λ (room : RoomState). All (λ (guard : GuardState). guard.asked < 2 ^ 43) room.guards.all) (sym is.fold) (asked-fold_of opening past tasks most (omega (arith, few))));
+      };
+    }
+
+pub counted-reply-requires-clause-may : goal.counted-reply-requires-clause-may
+counted-reply-requires-clause-may g c =
+    let a = c.self.inside in
+    let is = c.self.invariant in
+    record {
+      event = subst (λ count. IsEvent count c.args.event) (sym is.siblings) (subst (λ (m : Machine). IsEvent m.opening.scenario.siblings c.args.event) (sym c.self.view_is) c.requires.event);
+      ready = ready_of a is (omega (arith, c.requires.spare, ap (λ (m : Machine). m.spare) c.self.view_is));
     }
 
 -- the entries once the last of them has its reply
