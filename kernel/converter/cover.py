@@ -1,4 +1,4 @@
-"""Counts what a selection for the core covers, and finds where its cookie searches meet the one known difference."""
+"""Counts what a core-wide selection covers, and finds where its cookie searches meet the one known difference."""
 
 from converter.events import FAIR, IDLE, NO_COOKIE
 from converter.need import need

@@ -71,7 +71,7 @@ range-set f g place value is a (suc n) (suc k) at below =
     let here : f a ≡ g a = is a ∙ cond-false (eqb place a) value (g a) (ne_eqb place a (λ e. absurd (omega arith))) in
     λ i. here i ∷ range-set f g place value is (a + 1) n k (omega arith) (omega arith) i
 
--- whether a pick is one of a selection for the core, the sibling's own or another's
+-- whether a pick is one of a core-wide selection, the sibling's own or another's
 abbrev is_took : Pick → Bool
 is_took pick = is_selected pick.kind || is_adopted pick.kind
 

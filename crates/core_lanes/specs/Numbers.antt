@@ -38,7 +38,7 @@ with_ended ended numbers = record numbers { totals = λ pid. numbers.totals pid 
 abbrev pub numbers_in : {Q : Type 0} {g : Ghosts Q} → Beside → Core Q g × Table → Numbers
 numbers_in beside both = with_ended beside.ended (numbers_of both)
 
--- whether there was a selection for the core, and nothing was touched since the last one
+-- whether there was a core-wide selection, and nothing was touched since the last one
 abbrev pub is_fresh_by : Numbers → Bool
 is_fresh_by numbers = nat_lt 0 numbers.pick && (numbers.pick == numbers.task)
 

@@ -39,12 +39,12 @@ pub struct Core<Q: SiblingQueue> {
     pub cookie: Cookie,
     /// The task number: how often the queues were touched, a count (`core_task_seq`).
     pub task_number: u64,
-    /// The pick number: how often they were touched up to the last selection for the core and with it, a
+    /// The pick number: how often they were touched up to the last core-wide selection and with it, a
     /// count (`core_pick_seq`).
     pub pick_number: u64,
     /// The stamp of the next enqueue or rotation (this project's).
     pub next_stamp: u64,
-    /// How siblings are forced idle since the last selection for the core (`core_forceidle_count`,
+    /// How siblings are forced idle since the last core-wide selection (`core_forceidle_count`,
     /// `core_forceidle_occupation` and `core_forceidle_start`).
     pub account: ForceIdle,
     /// The siblings, by rising number.
@@ -120,7 +120,7 @@ impl<Q: SiblingQueue> Core<Q> {
         self.lanes[cpu as usize].queue.count(table, cpu) > 0
     }
 
-    /// Whether there was a selection for the core, and nothing was touched since the last one.
+    /// Whether there was a core-wide selection, and nothing was touched since the last one.
     pub fn is_fresh(&self) -> bool
         ensures { (table : Table) → result ≡ is_fresh_by (numbers_of (self.now, table)) }
     {

@@ -107,7 +107,7 @@ pub record IsPlan (room : RoomState) (core : ℕ) (choices : List Choice) (occup
   pub occupied : occupation ≡ occupation_of room core
   pub renewed : renews ≡ renews_snapshots room core
 
--- each sibling of the room gets its choice in a selection for the core that the selector makes, and each task that is chosen
+-- each sibling of the room gets its choice in a core-wide selection that the selector makes, and each task that is chosen
 -- remembers the occupation
 pub record HandsOut {Q : Type 0} (room : RoomState) (selector core : ℕ) (lanes : List (Lane Q)) (old new : Table) : Type 0 where
   pub states : map lane_state lanes ≡ (select_for room selector core).siblings
@@ -125,7 +125,7 @@ abbrev pub IsHanded : {Q : Type 0} → RoomState → ℕ → ℕ → ℕ → Boo
 IsHanded room core selector cpu selects occupation renews old new =
     IsTold room core selector cpu selects occupation renews → lane_state new ≡ sibling_after_selection room core selector cpu (lane_state old)
 
--- what a selection for the core leaves as it is in a sibling: its own number and its queue
+-- what a core-wide selection leaves as it is in a sibling: its own number and its queue
 abbrev pub kept_in_selection : {Q : Type 0} → Lane Q → ℕ × Q
 kept_in_selection lane = (lane.number, lane.queue)
 

@@ -1,4 +1,4 @@
-//! What each sibling gets in a selection for the core. It is a file of its own since the selection
+//! What each sibling gets in a core-wide selection. It is a file of its own since the selection
 //! counts the choices before it changes siblings and tasks by them.
 
 ghost use Rattle.std.specs.Prelude.{◌≡◌, ℕ, ◌+◌, ◌≤◌, ◌==◌, None, if◌then◌else◌, length, map};
@@ -115,7 +115,7 @@ fn update_task(tasks: &mut TaskTable, choice: &Choice, occupation: u8)
     }
 }
 
-/// Hands each online sibling its choice in a selection for the core that the selector makes, and has each task that
+/// Hands each online sibling its choice in a core-wide selection that the selector makes, and has each task that
 /// is chosen remember the occupation. The test says whether snapshots are renewed.
 pub fn update<Q: Drop>(
     lanes: &mut [Lane<Q>],

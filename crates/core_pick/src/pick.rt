@@ -130,7 +130,7 @@ fn select_for<Q: SiblingQueue, L: Ledger>(
     choices[cpu as usize].run()
 }
 
-/// The sibling, whose first task this is, makes a selection for the core, under the cookie of its lead.
+/// The sibling, whose first task this is, makes a core-wide selection, under the cookie of its lead.
 fn select<Q: SiblingQueue, L: Ledger>(
     core: &mut Core<Q>,
     table: &mut TaskTable,
@@ -163,7 +163,7 @@ fn select<Q: SiblingQueue, L: Ledger>(
 
 // ---- every case
 
-/// The sibling runs its first, or selects for the core.
+/// The sibling runs its first, or makes a core-wide selection.
 fn pick_anew<Q: SiblingQueue, L: Ledger>(
     core: &mut Core<Q>,
     table: &mut TaskTable,

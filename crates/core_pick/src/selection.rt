@@ -1,4 +1,4 @@
-//! What a selection for the core asks of the queues: the lead, and what each sibling gets for a core cookie.
+//! What a core-wide selection asks of the queues: the lead, and what each sibling gets for a core cookie.
 //! It is a file of its own since it changes nothing.
 
 ghost use Rattle.std.specs.Prelude.{◌≡◌, ◌+◌, ◌-◌, ◌*◌, ◌≤◌, ◌<◌, ◌==◌, length, None, if◌then◌else◌};

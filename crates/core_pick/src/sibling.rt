@@ -30,7 +30,7 @@ pub fn run_first<Q: Drop>(lane: &mut Lane<Q>, first: Option<Pid>, is_fair: bool)
     }
 }
 
-/// It gets this task, or none for idle, in a selection for the core, where it is online. The tests say whether it
+/// It gets this task, or none for idle, in a core-wide selection, where it is online. The tests say whether it
 /// makes the selection itself, whether the task is fair, and whether snapshots are renewed.
 #[inline(always)]
 fn take<Q: Drop>(
@@ -62,7 +62,7 @@ fn take<Q: Drop>(
     }
 }
 
-/// It gets this in a selection for the core, where it is online. The tests say whether it makes the selection itself,
+/// It gets this in a core-wide selection, where it is online. The tests say whether it makes the selection itself,
 /// and whether snapshots are renewed.
 #[inline(always)]
 pub fn hand<Q: Drop>(

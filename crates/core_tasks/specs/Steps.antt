@@ -18,7 +18,7 @@ use Rattle.core_tasks.specs.State.{both, beside_of, room_with, state_numbers, St
 
 -- ---- the numbers
 
--- each sibling's own number: that of the one whose pick of a selection for the core this is becomes the pick number
+-- each sibling's own number: that of the one whose pick of a core-wide selection this is becomes the pick number
 abbrev pub own_after : Event → Reply → ℕ → List ℕ → List ℕ
 own_after event answer pick own =
     option_map_or (λ cpu. option_map_or (λ (chosen : Pick).

@@ -1,4 +1,4 @@
--- Behind: while a pick waits for a sibling, it took none of the last selection for the core. So its own number is below
+-- Behind: while a pick waits for a sibling, it took none of the last core-wide selection. So its own number is below
 -- the pick number.
 use Rattle.std.proofs.Common.{◌≡◌, ℕ, ◌<◌, Bool, cond, true, false, ◌∷◌, length, refl, sym, ap, ◌∙◌, subst, inl, inr, arith, Option, Some, None, is_some}
 use Rattle.std.specs.Prelude.{◌==◌, ◌||◌, not}
@@ -52,7 +52,7 @@ behind-flag own pick room cpu test behind = behind-with_sibling own pick room cp
 
 -- ---- a schedule
 
--- After a schedule nothing waits for its sibling. Where it is no selection for the core, nothing more waits for another.
+-- After a schedule nothing waits for its sibling. Where it is no core-wide selection, nothing more waits for another.
 record Leaves (own : ℕ → ℕ) (pick cpu : ℕ) (made : Scheduled) : Type 0 where
   gone : (sibling_of made.room cpu).waiting ≡ None
   others : is_selected made.pick.kind ≡ false → AreBehind own pick made.room
@@ -87,11 +87,11 @@ leaves-schedule own pick room fresh cpu below up behind =
 
 -- ---- a step
 
--- whether an entry of this event with this reply tells that the sibling took a pick of a selection for the core
+-- whether an entry of this event with this reply tells that the sibling took a pick of a core-wide selection
 abbrev takes : ℕ → Event → Reply → Bool
 takes cpu event reply = is_taken_by cpu (record { actor = End; event = event; reply = reply })
 
--- After a step nothing waits for a sibling that took a pick in it. Where it tells no selection for the core, nothing more
+-- After a step nothing waits for a sibling that took a pick in it. Where it tells no core-wide selection, nothing more
 -- waits for any.
 record StepLeaves (own : ℕ → ℕ) (pick : ℕ) (event : Event) (made : Stepped) : Type 0 where
   taken : (cpu : ℕ) → takes cpu event made.reply ≡ true → (sibling_of made.room cpu).waiting ≡ None

@@ -1,4 +1,4 @@
--- Selections: a selection for the core keeps its law.
+-- Selections: a core-wide selection keeps its law.
 use Rattle.std.proofs.Common.{◌≡◌, ◌≢◌, ℕ, zero, suc, Bool, ◌-◌, ◌<◌, true, false, cond, List, [], ◌∷◌, ◌++◌, map, length, get_or, set, refl, sym, ap, ◌∙◌, subst, inl, inr, Option, Some, None, arith}
 use Rattle.std.specs.Prelude.{◌==◌, ◌&&◌, ◌||◌, ◌⊎◌, ◌↔◌, filter, count_by, All, Contains, IsTrue, is_none, is_some, not, unwrap_or}
 use Rattle.std.specs.List.{AllByRecursion, range_with_len, enumerate_from}
@@ -29,7 +29,7 @@ use Rattle.cs_types.specs.Step.{Stepped, step, picked, turn, try_steal, unless_o
 use Rattle.cs_types.specs.Steal.{stolen}
 use Rattle.cs_types.specs.Queueing.{dequeue}
 use Rattle.cs_types.specs.History.{History, moment_of, fold_of, ledger_of, reply_to, step_at}
-use Rattle.cs_types.specs.Laws.{RunsItsChoice, AwaitsItsChoice, SelectsForTheCore, scheduling_room, cpu_of}
+use Rattle.cs_types.specs.Laws.{RunsItsChoice, AwaitsItsChoice, SelectsCoreWide, scheduling_room, cpu_of}
 use Rattle.cs_types.proofs.Foremost.{each_weaker, foremost_none, foremost_one}
 use Rattle.cs_types.proofs.First.{goes_before_is_order, outranks_is_order, higher_at_home}
 use Rattle.cs_types.proofs.Filtered.{each_of_map, each_found, foremost_least, foremost-filter, Contains-filter, Contains-filter_parts, Contains-range, Contains-range_within}
@@ -375,9 +375,9 @@ occupied room cpu below forced = go (lead_from room cpu) refl where
 
 -- ---- the law
 
--- A selection for the core that an online sibling makes keeps its law.
+-- A core-wide selection that an online sibling makes keeps its law.
 pub selected_keeps_law : (room : RoomState) (cpu : ℕ) → cpu < length room.siblings → is_online room cpu ≡ true →
-    SelectsForTheCore room cpu (select room cpu).pick (select room cpu).room
+    SelectsCoreWide room cpu (select room cpu).pick (select room cpu).room
 unfolding select_for
 selected_keeps_law room cpu below up =
     let core = cookie_of (lead_from room cpu) in
@@ -406,9 +406,9 @@ selected_keeps_law room cpu below up =
 
 -- ---- the law at every step
 
--- what the law says of a schedule that a sibling made: where it is a selection for the core, it keeps the law
+-- what the law says of a schedule that a sibling made: where it is a core-wide selection, it keeps the law
 abbrev pub KeepsLaw : RoomState → ℕ → Scheduled → Type 0
-KeepsLaw room cpu made = IfSome (selection_of (Picked made.pick)) (λ pick. SelectsForTheCore room cpu pick made.room)
+KeepsLaw room cpu made = IfSome (selection_of (Picked made.pick)) (λ pick. SelectsCoreWide room cpu pick made.room)
 
 rescheduled_keeps_law : (room : RoomState) (cpu : ℕ) → cpu < length room.siblings → is_online room cpu ≡ true → KeepsLaw room cpu (pick_anew room cpu)
 rescheduled_keeps_law room cpu below up =
@@ -429,8 +429,8 @@ get_or-set_alike f (y ∷ xs) (suc i) x zero d same = refl
 get_or-set_alike f (y ∷ xs) (suc i) x (suc j) d same = get_or-set_alike f xs i x j d same
 
 -- neither the charge nor a sibling's next place of a steal try makes a difference to the law
-balanced_keeps_law : (room : RoomState) (cpu : ℕ) (pick : Pick) (now : RoomState) (place : ℕ) → SelectsForTheCore (charge room) cpu pick now →
-    SelectsForTheCore room cpu pick (with_sibling now cpu (record (sibling_of now cpu) { place = place }))
+balanced_keeps_law : (room : RoomState) (cpu : ℕ) (pick : Pick) (now : RoomState) (place : ℕ) → SelectsCoreWide (charge room) cpu pick now →
+    SelectsCoreWide room cpu pick (with_sibling now cpu (record (sibling_of now cpu) { place = place }))
 unfolding choice
 balanced_keeps_law room cpu pick now place law =
     let parts = λ (other : ℕ).
@@ -465,14 +465,14 @@ pub schedule_keeps_law : (room : RoomState) (fresh : Bool) (cpu : ℕ) → cpu <
 schedule_keeps_law room fresh cpu below up =
     let made = adopt_or_pick_anew room fresh cpu (sibling_of room cpu).waiting in
     go (selection_of (Picked made.pick)) made.room _ (scheduled_keeps_law room fresh cpu (sibling_of room cpu).waiting below up) where
-      go : (pick : Option Pick) (now : RoomState) (place : ℕ) → IfSome pick (λ pick. SelectsForTheCore (charge room) cpu pick now) →
-          IfSome pick (λ pick. SelectsForTheCore room cpu pick (with_sibling now cpu (record (sibling_of now cpu) { place = place })))
+      go : (pick : Option Pick) (now : RoomState) (place : ℕ) → IfSome pick (λ pick. SelectsCoreWide (charge room) cpu pick now) →
+          IfSome pick (λ pick. SelectsCoreWide room cpu pick (with_sibling now cpu (record (sibling_of now cpu) { place = place })))
       go None now place kept = tt
       go (Some pick) now place kept = balanced_keeps_law room cpu pick now place kept
 
 -- what the law says of a step made by an event
 abbrev pub StepKeepsLaw : RoomState → Event → Stepped → Type 0
-StepKeepsLaw room event made = IfSome (selection_of made.reply) (λ pick. SelectsForTheCore (scheduling_room room event) (cpu_of event) pick made.room)
+StepKeepsLaw room event made = IfSome (selection_of made.reply) (λ pick. SelectsCoreWide (scheduling_room room event) (cpu_of event) pick made.room)
 
 try_steal_keeps_law : (room : RoomState) (cpu : ℕ) (task : Option Task) → StepKeepsLaw room (Turn cpu) (try_steal room cpu task)
 try_steal_keeps_law room cpu None = tt
@@ -487,7 +487,7 @@ turned_keeps_law room fresh cpu below up =
 -- a sibling that blocks schedules in the room without the task that went to sleep, where the same siblings are online
 blocked_keeps_law : (room : RoomState) (cpu : ℕ) (task : Option Task) → cpu < length room.siblings → is_online room cpu ≡ true →
     IfSome (selection_of (block room cpu task).reply)
-    (λ pick. SelectsForTheCore (option_map_or (λ task. run_idle (dequeue (charge room) task) cpu) task room) cpu pick (block room cpu task).room)
+    (λ pick. SelectsCoreWide (option_map_or (λ task. run_idle (dequeue (charge room) task) cpu) task room) cpu pick (block room cpu task).room)
 blocked_keeps_law room cpu None below up = tt
 blocked_keeps_law room cpu (Some task) below up =
     let room_then = run_idle (dequeue (charge room) task) cpu in
@@ -497,12 +497,12 @@ blocked_keeps_law room cpu (Some task) below up =
 
 exited_keeps_law : (room : RoomState) (cpu : ℕ) (task : Option Task) → cpu < length room.siblings → is_online room cpu ≡ true →
     IfSome (selection_of (exit room cpu task).reply)
-    (λ pick. SelectsForTheCore (option_map_or (λ task. run_idle (without (charge room) task) cpu) task room) cpu pick (exit room cpu task).room)
+    (λ pick. SelectsCoreWide (option_map_or (λ task. run_idle (without (charge room) task) cpu) task room) cpu pick (exit room cpu task).room)
 exited_keeps_law room cpu None below up = tt
 exited_keeps_law room cpu (Some task) below up =
     let room_then = run_idle (without (charge room) task) cpu in
     let same = kept-without (charge room) cpu task in
-    cond_both (has_threads room task) _ _ (λ (made : Stepped). IfSome (selection_of made.reply) (λ pick. SelectsForTheCore room_then cpu pick made.room))
+    cond_both (has_threads room task) _ _ (λ (made : Stepped). IfSome (selection_of made.reply) (λ pick. SelectsCoreWide room_then cpu pick made.room))
     (λ _. tt)
     (λ _. schedule_keeps_law room_then false cpu (subst (λ n. cpu < n) (sym (length-alike room_then room same)) below)
     (is_online-alike room_then room same cpu ∙ up))
@@ -581,11 +581,11 @@ step_keeps_law room fresh (Unload index) limits =
 step_keeps_law room fresh (Prctl caller ask) limits =
     MatchOption-from_none (selection_of (prctl_answer room caller ask)) _ (prctl_selects_nothing room caller ask)
 
--- Every selection for the core that a legal step makes keeps the law.
+-- Every core-wide selection that a legal step makes keeps the law.
 pub selects : (opening : Opening) (history : History) (entry : Entry) → IsEvent opening.scenario.siblings entry.event →
     entry.reply ≡ reply_to opening history entry.event →
     IfSome (selection_of entry.reply)
-    (λ pick. SelectsForTheCore (scheduling_room (fold_of opening history) entry.event) (cpu_of entry.event) pick (fold_of opening (history ++ entry ∷ [])))
+    (λ pick. SelectsCoreWide (scheduling_room (fold_of opening history) entry.event) (cpu_of entry.event) pick (fold_of opening (history ++ entry ∷ [])))
 selects opening history entry limits legal =
     let room = fold_of opening history in
     let made = step_at (moment_of opening history) entry.event in

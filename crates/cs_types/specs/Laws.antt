@@ -45,8 +45,8 @@ pub record AwaitsItsChoice (chosen : Option ℕ) (before now : SiblingState) : T
   -- It is pending exactly where its choice waits or it was pending before.
   pub pending : IsTrue now.pending ↔ ((now.waiting ≡ Some chosen) ⊎ IsTrue before.pending)
 
--- What a selection for the core that a sibling made in the one room leaves in the other.
-pub record SelectsForTheCore (before : RoomState) (cpu : ℕ) (pick : Pick) (now : RoomState) : Type 0 where
+-- What a core-wide selection that a sibling made in the one room leaves in the other.
+pub record SelectsCoreWide (before : RoomState) (cpu : ℕ) (pick : Pick) (now : RoomState) : Type 0 where
   -- The lead is the earliest first, from the sibling that selects on, than which no other first is higher.
   pub lead : Option Task
   pub earliest : foremost (outranks (snapshot_of before)) (map (first_on before) (online_from before cpu)) ≡ Some lead

@@ -197,7 +197,7 @@ select room cpu =
 abbrev pub pick_anew : RoomState → ℕ → Scheduled
 pick_anew room cpu = if is_plain room cpu then pick_plain room cpu else select room cpu
 
--- A waiting pick is adopted where it may be: nothing was touched since the last selection for the core, and this event has
+-- A waiting pick is adopted where it may be: nothing was touched since the last core-wide selection, and this event has
 -- dequeued no task. Else the open interval is charged, and the sibling picks anew (`sched_core_account_forceidle` in
 -- `pick_next_task`).
 abbrev pub adopt_or_pick_anew : RoomState → Bool → ℕ → Waiting → Scheduled

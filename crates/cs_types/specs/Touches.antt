@@ -1,5 +1,5 @@
 -- Touches: how often an entry touches the queues of the core, and what follows from it. The kernel counts touches
--- (`core_task_seq` of `rq->core`) and notes the count of the last selection for the core (`core_pick_seq`) and of
+-- (`core_task_seq` of `rq->core`) and notes the count of the last core-wide selection (`core_pick_seq`) and of
 -- each sibling's last pick from one (`core_sched_seq`); here the three numbers are sums over the history.
 use Rattle.std.specs.Prelude.{ℕ, ◌+◌, ◌*◌, Bool, true, false, ◌==◌, ◌&&◌, ◌||◌, not, if◌then◌else◌, List, [], ◌∷◌, length, sum_by, take_while, Option, Some, None, is_some}
 use Rattle.std.specs.List.{list_any, list_all}
@@ -18,7 +18,7 @@ use Rattle.cs_types.specs.Prctl.{Setting, setting_of}
 
 -- ---- the pick of an entry
 
--- whether a sibling came to its pick by a selection for the core that it made
+-- whether a sibling came to its pick by a core-wide selection that it made
 abbrev pub is_selected : Kind → Bool
 is_selected Selected = true
 is_selected Adopted = false
@@ -54,15 +54,15 @@ scheduler_of (Online cpu) = None
 scheduler_of (Load index) = None
 scheduler_of (Unload index) = None
 
--- the pick of a selection for the core, if a reply tells one
+-- the pick of a core-wide selection, if a reply tells one
 abbrev pub selection_of : Reply → Option Pick
 selection_of reply = option_and_then (λ (pick : Pick). if is_selected pick.kind then Some pick else None) (pick_of reply)
 
--- whether an entry tells a selection for the core
+-- whether an entry tells a core-wide selection
 abbrev pub is_selection : Entry → Bool
 is_selection entry = is_some (selection_of entry.reply)
 
--- whether an entry tells that the sibling took a pick of a selection for the core, its own or another's
+-- whether an entry tells that the sibling took a pick of a core-wide selection, its own or another's
 abbrev pub is_taken_by : ℕ → Entry → Bool
 is_taken_by cpu entry =
     option_map_or (λ other. other == cpu) (scheduler_of entry.event) false
@@ -140,15 +140,15 @@ back_to test (note ∷ ledger) = if test note.entry then note ∷ ledger else ba
 abbrev pub task_number : Ledger → ℕ
 task_number ledger = sum_by (λ note. note.touches) ledger
 
--- the pick number: all touches up to the last selection for the core and with it
+-- the pick number: all touches up to the last core-wide selection and with it
 abbrev pub pick_number : Ledger → ℕ
 pick_number ledger = task_number (back_to is_selection ledger)
 
--- a sibling's own number: the pick number just after it last took a pick of a selection for the core
+-- a sibling's own number: the pick number just after it last took a pick of a core-wide selection
 abbrev pub own_number : ℕ → Ledger → ℕ
 own_number cpu ledger = pick_number (back_to (is_taken_by cpu) ledger)
 
--- whether there was a selection for the core, and nothing was touched since the last one
+-- whether there was a core-wide selection, and nothing was touched since the last one
 unfoldable pub is_fresh : Ledger → Bool
 is_fresh ledger =
     list_any (λ note. is_selection note.entry) ledger

@@ -87,7 +87,7 @@ abbrev pub adopts : Reply → Bool
 adopts reply = option_map_or (λ (pick : Pick). is_adopted pick.kind) (pick_of reply) false
 
 -- A sibling is to adopt, by the task number, the pick number, and its own number as it is shown: the pick number is the
--- task number, so nothing was touched since the last selection for the core; its own number is another, so it took no pick
+-- task number, so nothing was touched since the last core-wide selection; its own number is another, so it took no pick
 -- of that one yet; and a pick waits for it (`core_task_seq`, `core_pick_seq`, `core_sched_seq` and `core_pick` in
 -- `pick_next_task`, kernel/sched/core.c).
 abbrev pub IsToAdopt : ℕ → ℕ → CpuView → Waiting → Type 0

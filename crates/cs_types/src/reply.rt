@@ -9,7 +9,7 @@ use crate::task::{Cookie, Cpu, Pid};
 /// How a schedule came to its pick.
 #[derive(Clone, Copy)]
 pub enum Kind {
-    /// The sibling made a selection for the whole core.
+    /// The sibling made a core-wide selection.
     Selected,
     /// The sibling took what an earlier selection of another sibling had chosen for it.
     Adopted,

@@ -8,7 +8,7 @@ ghost use Rattle.cs_types.specs.Touches.{task_number, pick_number, selection_of}
 ghost use Rattle.cs_types.specs.History.{History, moment_of, fold_of, ledger_of, reply_to, AreEvents, IsLegal};
 ghost use Rattle.cs_types.specs.Drain.{pending, IsDrained};
 ghost use Rattle.cs_types.specs.View.{core_view, cpu_view, task_view_after, end_view, guard_view, IsTrusted, AdoptsByNumbers};
-ghost use Rattle.cs_types.specs.Laws.{SelectsForTheCore, scheduling_room, cpu_of, IsConsistentAt, IsSettled, RunOneCookie, is_refused, LeavesTheRoom};
+ghost use Rattle.cs_types.specs.Laws.{SelectsCoreWide, scheduling_room, cpu_of, IsConsistentAt, IsSettled, RunOneCookie, is_refused, LeavesTheRoom};
 
 use crate::event::{Actor, Event};
 use crate::reply::{Entry, Reply};
@@ -43,9 +43,9 @@ pub trait Room: Drop {
         ensures spare { spare self.new + 1 ≡ spare self.old }
         ensures opening { opening self.new ≡ opening self.old }
 
-        // A selection for the core takes a lead than which no queued task is higher, and gives each
+        // A core-wide selection takes a lead than which no queued task is higher, and gives each
         // online sibling only a task with the lead's cookie, or idle.
-        ensures selection { IfSome (selection_of result) (λ pick. SelectsForTheCore
+        ensures selection { IfSome (selection_of result) (λ pick. SelectsCoreWide
             (scheduling_room (fold_of (opening self.old) (history self.old)) event) (cpu_of event) pick
             (fold_of (opening self.new) (history self.new))) }
 
@@ -96,7 +96,7 @@ pub trait Room: Drop {
         ensures { result ≡ (fold_of (opening self.now) (history self.now)).clock };
 
     /// The task number and the pick number: how often the history touched the queues, and how often
-    /// up to its last selection for the core and with it.
+    /// up to its last core-wide selection and with it.
     fn numbers(&self) -> (u64, u64)
         ensures { let ledger = ledger_of (opening self.now) (history self.now) in
             result ≡ (task_number ledger, pick_number ledger) };

@@ -135,6 +135,6 @@ pub struct Task {
     /// How much of its slice it has used, in ns, of an RR task (`rt.time_slice` counts the rest, in
     /// ticks).
     pub used: u64,
-    /// The occupation of the last selection for the core that chose it, a count (`core_occupation`).
+    /// The occupation of the last core-wide selection that chose it, a count (`core_occupation`).
     pub occupation: u8,
 }

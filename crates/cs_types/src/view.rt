@@ -7,7 +7,7 @@ use crate::task::{Cookie, Cpu, Pid};
 pub struct CoreView {
     /// The cookie that the core runs under, 0 for none.
     pub cookie: Cookie,
-    /// How many siblings are forced idle, a count: as the last selection for the core left it, and 0
+    /// How many siblings are forced idle, a count: as the last core-wide selection left it, and 0
     /// after a plain pick and after a sibling left.
     pub forced: u8,
     /// For how many siblings that selection chose a task, a count. 0 after a plain pick and after a

@@ -9,7 +9,7 @@ ghost use Rattle.forceidle_account.specs.Account.{IsAccountOf};
 use cs_types::Cookie;
 use std::marker::Model;
 
-/// How the siblings of a core are forced idle since the last selection for the core
+/// How the siblings of a core are forced idle since the last core-wide selection
 /// (`core_forceidle_count`, `core_forceidle_occupation` and `core_forceidle_start` of `rq->core`).
 #[derive(Drop)]
 pub struct ForceIdle {
@@ -47,7 +47,7 @@ impl ForceIdle {
         }
     }
 
-    /// A selection for the core at `now`, in ns from the start and below 2^56, has forced `count`
+    /// A core-wide selection at `now`, in ns from the start and below 2^56, has forced `count`
     /// siblings idle, and chosen a task for `occupation`, 0 to 255 each. The interval begins where a
     /// sibling is forced idle under a core cookie, 0 for none, and else none is open
     /// (`pick_next_task`, kernel/sched/core.c; that it asks for a cookie is 5.19's rule, and no longer

@@ -1,4 +1,4 @@
-//! What a worked example is, and those of selections for the core and of forced idle. The tests that play
+//! What a worked example is, and those of core-wide selections and of forced idle. The tests that play
 //! them stand in `examples`.
 
 /// A text, and what the program writes for it.

@@ -13,7 +13,7 @@ use Rattle.cs_types.specs.Touches.{selection_of}
 use Rattle.cs_types.specs.History.{History, IsLegal, fold_of, events_by, file}
 use Rattle.cs_types.specs.Shuffles.{IsShuffle}
 use Rattle.cs_types.specs.Drain.{pending, IsDrained}
-use Rattle.cs_types.specs.Laws.{SelectsForTheCore, scheduling_room, cpu_of, IsSettled, RunOneCookie}
+use Rattle.cs_types.specs.Laws.{SelectsCoreWide, scheduling_room, cpu_of, IsSettled, RunOneCookie}
 use Rattle.cs_outside.specs.Device.{appended, WritesPrefix}
 use Rattle.scenario_text.specs.Entry.{IsEntry}
 use Rattle.room_report.specs.Report.{output_text}
@@ -42,10 +42,10 @@ pub record IsPlayed (opening : Opening) (run : History) : Type 0 where
   pub scripts : (actor : Actor) → actor ≢ End → events_by actor run ≡ script opening.scenario actor
   -- at each moment of it each online sibling without a pending reschedule runs idle or a living task with the core cookie
   pub trust : (past rest : History) → run ≡ past ++ rest → IsSettled (fold_of opening past)
-  -- each selection for the core takes a highest task, and gives each sibling only a task with its cookie, or idle
+  -- each core-wide selection takes a highest task, and gives each sibling only a task with its cookie, or idle
   pub selections : (past : History) (entry : Entry) (rest : History) → run ≡ past ++ entry ∷ rest →
       IfSome (selection_of entry.reply) (λ pick.
-      SelectsForTheCore (scheduling_room (fold_of opening past) entry.event) (cpu_of entry.event) pick (fold_of opening (past ++ entry ∷ [])))
+      SelectsCoreWide (scheduling_room (fold_of opening past) entry.event) (cpu_of entry.event) pick (fold_of opening (past ++ entry ∷ [])))
   -- at each moment the forced-idle totals divide the recorded intervals
   pub totals : (past rest : History) → run ≡ past ++ rest → DividesIntervals (fold_of opening past)
   -- at its end no sibling is pending, and all that do not run idle run living tasks with one cookie

@@ -15,7 +15,7 @@ use Rattle.cs_types.specs.Scenario.{IsEvent}
 use Rattle.cs_types.specs.Room.{RoomState, SiblingState}
 use Rattle.cs_types.specs.Touches.{selection_of}
 use Rattle.cs_types.specs.History.{History, fold_of, reply_to, history_of, IsLegal}
-use Rattle.cs_types.specs.Laws.{SelectsForTheCore, scheduling_room, cpu_of, LeavesTheRoom}
+use Rattle.cs_types.specs.Laws.{SelectsCoreWide, scheduling_room, cpu_of, LeavesTheRoom}
 use Rattle.cs_types.proofs.Numbers.{asked-fold_of, task_number-ledger_of, next_stamp-fold_of, next_cookie-fold_of, next_pid-fold_of, ended-fold_of}
 use Rattle.cs_types.proofs.Tasks.{few-fold_of}
 use Rattle.cs_types.proofs.Histories.{IsLegal-history_of}
@@ -163,7 +163,7 @@ returns-clause-selection g c =
     let m = c.args.self.now in
     let past = history_of m.opening m.steps in
     let entry : Entry = record { actor = c.args.actor; event = c.args.event; reply = c.counted-reply.result } in
-    subst (λ (room : RoomState). IfSome (selection_of entry.reply) (λ pick. SelectsForTheCore (scheduling_room (fold_of m.opening past) entry.event) (cpu_of entry.event) pick room))
+    subst (λ (room : RoomState). IfSome (selection_of entry.reply) (λ pick. SelectsCoreWide (scheduling_room (fold_of m.opening past) entry.event) (cpu_of entry.event) pick room))
     (λ i. fold_of (sym c.self.view_is i).opening (sym (returns-clause-entry g c) i))
     (selects m.opening past entry c.requires.event (returns-clause-reply g c))
 
