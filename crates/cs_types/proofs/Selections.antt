@@ -1,6 +1,6 @@
 -- Selections: a core-wide selection keeps its law.
 use Rattle.std.proofs.Common.{◌≡◌, ◌≢◌, ℕ, zero, suc, Bool, ◌-◌, ◌<◌, true, false, cond, List, [], ◌∷◌, ◌++◌, map, length, get_or, set, refl, sym, ap, ◌∙◌, subst, inl, inr, Option, Some, None, arith}
-use Rattle.std.specs.Prelude.{◌==◌, ◌&&◌, ◌||◌, ◌⊎◌, ◌↔◌, filter, count_by, All, Contains, IsTrue, is_none, is_some, not, unwrap_or}
+use Rattle.std.specs.Prelude.{nat_lt, ◌==◌, ◌&&◌, ◌||◌, ◌⊎◌, ◌↔◌, filter, count_by, All, Contains, IsTrue, is_none, is_some, not, unwrap_or}
 use Rattle.std.specs.List.{AllByRecursion, range_with_len, enumerate_from}
 use Rattle.std.specs.Option.{option_and_then, option_to_list, IfSome, option_map_or}
 use Rattle.std.proofs.lemmas.Bool.{both_ways, ne_eqb, cases_Bool, cond_both, cases_lt, and_parts, and_from, or_parts, cond-true, eqb-true, eq-eqb}
@@ -29,7 +29,7 @@ use Rattle.cs_types.specs.Step.{Stepped, step, picked, turn, try_steal, unless_o
 use Rattle.cs_types.specs.Steal.{stolen}
 use Rattle.cs_types.specs.Queueing.{dequeue}
 use Rattle.cs_types.specs.History.{History, moment_of, fold_of, ledger_of, reply_to, step_at}
-use Rattle.cs_types.specs.Laws.{RunsItsChoice, AwaitsItsChoice, SelectsCoreWide, scheduling_room, cpu_of}
+use Rattle.cs_types.specs.Laws.{first_eligible, has_none_eligible, RunsItsChoice, AwaitsItsChoice, SelectsCoreWide, scheduling_room, cpu_of}
 use Rattle.cs_types.proofs.Foremost.{each_weaker, foremost_none, foremost_one}
 use Rattle.cs_types.proofs.First.{goes_before_is_order, outranks_is_order, higher_at_home}
 use Rattle.cs_types.proofs.Filtered.{each_of_map, each_found, foremost_least, foremost-filter, Contains-filter, Contains-filter_parts, Contains-range, Contains-range_within}
@@ -172,33 +172,33 @@ choice_matches room core cpu = go (choice room core cpu) (sym (choice_is_first r
   go (Some task) found = inr (each_found (λ t. t.cookie ≡ core) _ (eligible room core cpu) task found (each_eligible room core cpu))
 
 -- there is a first exactly where there is a task
-some_first : (tasks : List Task) → (is_some (first_of tasks) ≡ true) ↔ (0 < length tasks)
-some_first tasks = (there tasks, go (first_of tasks) refl) where
-  there : (tasks : List Task) → is_some (first_of tasks) ≡ true → 0 < length tasks
-  there [] some = absurd cc
-  there (task ∷ tasks) some = omega arith
-
-  go : (first : Option Task) → first_of tasks ≡ first → 0 < length tasks → is_some first ≡ true
-  go None none long = absurd (omega (arith, ap length (no_first tasks none)))
-  go (Some first) found long = refl
+is_some-first_of : (tasks : List Task) → is_some (first_of tasks) ≡ nat_lt 0 (length tasks)
+is_some-first_of [] = refl
+is_some-first_of (task ∷ tasks) = go (first_of (task ∷ tasks)) refl ∙ sym (grind (arith, nat_tests)) where
+  go : (first : Option Task) → first_of (task ∷ tasks) ≡ first → is_some first ≡ true
+  go None none = absurd (omega (arith, ap length (no_first (task ∷ tasks) none)))
+  go (Some first) found = refl
 
 -- and none exactly where there is none
-none_first : (tasks : List Task) → (is_none (first_of tasks) ≡ true) ↔ (tasks ≡ [])
-none_first tasks = (go (first_of tasks) refl, λ none. ap (λ ts. is_none (first_of ts)) none) where
-  go : (first : Option Task) → first_of tasks ≡ first → is_none first ≡ true → tasks ≡ []
-  go None none idle = no_first tasks none
-  go (Some first) found idle = absurd cc
+is_none-first_of : (tasks : List Task) → is_none (first_of tasks) ≡ (length tasks == 0)
+is_none-first_of [] = refl
+is_none-first_of (task ∷ tasks) = go (first_of (task ∷ tasks)) refl ∙ sym (grind (arith, nat_tests)) where
+  go : (first : Option Task) → first_of (task ∷ tasks) ≡ first → is_none first ≡ false
+  go None none = absurd (omega (arith, ap length (no_first (task ∷ tasks) none)))
+  go (Some first) found = refl
 
--- A sibling is forced idle exactly where it has a queued task and none is eligible.
-pub forced_iff : (room : RoomState) (core cpu : ℕ) →
-    IsTrue (is_forced room core cpu) ↔ ((0 < length (queued_on room cpu)) × (eligible room core cpu ≡ []))
-forced_iff room core cpu =
-    let same = ap is_none (choice_is_first room core cpu) in (
-      λ forced. let parts = and_parts (is_none (choice room core cpu)) (is_some (first_on room cpu)) forced in
-          ((some_first (queued_on room cpu)).0 parts.1, (none_first (eligible room core cpu)).0 (sym same ∙ parts.0)),
-      λ parts. and_from (is_none (choice room core cpu)) (is_some (first_on room cpu))
-          (same ∙ (none_first (eligible room core cpu)).1 parts.1) ((some_first (queued_on room cpu)).1 parts.0),
-    )
+both_swapped : (a b : Bool) → (a && b) ≡ (b && a)
+both_swapped true true = refl
+both_swapped true false = refl
+both_swapped false true = refl
+both_swapped false false = refl
+
+-- A sibling is forced idle where it has a queued task and none is eligible.
+pub forced_is : (room : RoomState) (core cpu : ℕ) → is_forced room core cpu ≡ has_none_eligible room core cpu
+forced_is room core cpu =
+    (λ i. is_none (choice_is_first room core cpu i) && is_some-first_of (queued_on room cpu) i)
+    ∙ ap (λ (none : Bool). none && nat_lt 0 (length (queued_on room cpu))) (is_none-first_of (eligible room core cpu))
+    ∙ both_swapped (length (eligible room core cpu) == 0) (nat_lt 0 (length (queued_on room cpu)))
 
 -- ---- a sibling after a selection
 
@@ -389,17 +389,19 @@ selected_keeps_law room cpu below up =
       cookie = refl;
       told = refl;
       choices = λ other held. let parts = online_parts room other held in
-          ap to_run (online_after_selection room cpu core other parts.0 parts.1) ∙ to_run-sibling_after_selection room core cpu other (sibling_of room other);
-      first = λ other. choice_is_first room core other;
-      selector = subst (RunsItsChoice (pid_of (choice room core cpu))) (sym (online_after_selection room cpu core cpu below up))
-          (selector_runs_its_choice room core cpu (sibling_of room cpu));
+          ap to_run (online_after_selection room cpu core other parts.0 parts.1) ∙ to_run-sibling_after_selection room core cpu other (sibling_of room other)
+          ∙ ap pid_of (choice_is_first room core other);
+      matches = λ other held.
+          subst (λ (chosen : Option Task). (chosen ≡ None) ⊎ (cookie_of chosen ≡ core)) (choice_is_first room core other) (choice_matches room core other);
+      selector = subst (RunsItsChoice (pid_of (first_eligible room core cpu))) (sym (online_after_selection room cpu core cpu below up))
+          (subst (λ (chosen : Option Task). RunsItsChoice (pid_of chosen) (sibling_after_selection room core cpu cpu (sibling_of room cpu))) (choice_is_first room core cpu)
+          (selector_runs_its_choice room core cpu (sibling_of room cpu)));
       others = λ other held differ. let parts = online_parts room other held in
-          subst (AwaitsItsChoice (pid_of (choice room core other)) (sibling_of room other)) (sym (online_after_selection room cpu core other parts.0 parts.1))
-          (others_await_their_choices room core cpu other (sibling_of room other) differ);
-      took = refl;
-      matches = λ other held. choice_matches room core other;
-      forced = λ other. forced_iff room core other;
-      count = refl;
+          subst (AwaitsItsChoice (pid_of (first_eligible room core other)) (sibling_of room other)) (sym (online_after_selection room cpu core other parts.0 parts.1))
+          (subst (λ (chosen : Option Task). AwaitsItsChoice (pid_of chosen) (sibling_of room other) (sibling_after_selection room core cpu other (sibling_of room other)))
+          (choice_is_first room core other) (others_await_their_choices room core cpu other (sibling_of room other) differ));
+      took = ap (λ (chosen : Option Task). unwrap_or (pid_of chosen) 0) (choice_is_first room core cpu);
+      count = λ i. count_by (λ other. forced_is room core other i) (online room);
       counted = refl;
       occupied = occupied room cpu below;
     }
@@ -442,7 +444,7 @@ balanced_keeps_law room cpu pick now place law =
       cookie = law.cookie;
       told = law.told;
       choices = λ other there. (λ i. unwrap_or (parts other i).1 (parts other i).0) ∙ law.choices other there;
-      first = law.first;
+      matches = law.matches;
       selector = record {
         runs = ap (λ part. part.0) (parts cpu) ∙ law.selector.runs;
         nothing_waits = ap (λ part. part.1) (parts cpu) ∙ law.selector.nothing_waits;
@@ -451,10 +453,8 @@ balanced_keeps_law room cpu pick now place law =
       others = λ other there differ.
           let is = law.others other there differ in
           let same = get_or-set_other now.siblings cpu other (record (sibling_of now cpu) { place = place }) absent differ in
-          subst (AwaitsItsChoice (pid_of (choice room now.core_cookie other)) (sibling_of room other)) (sym same) is;
+          subst (AwaitsItsChoice (pid_of (first_eligible room now.core_cookie other)) (sibling_of room other)) (sym same) is;
       took = law.took;
-      matches = law.matches;
-      forced = law.forced;
       count = law.count;
       counted = law.counted;
       occupied = law.occupied;

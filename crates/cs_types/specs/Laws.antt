@@ -1,5 +1,5 @@
--- Laws: what the rules come to, said without them.
-use Rattle.std.specs.Prelude.{◌≡◌, ◌≢◌, ◌↔◌, ℕ, ◌<◌, true, false, ◌⊎◌, List, [], map, length, count_by, All, Contains, IsTrue, Option, Some, None, IfSome, unwrap_or, ◌+◌, Bool, IsSomeAnd, if◌then◌else◌}
+-- Laws: what the rules come to.
+use Rattle.std.specs.Prelude.{◌≡◌, ◌≢◌, ◌↔◌, ℕ, ◌<◌, ◌==◌, ◌&&◌, nat_lt, true, false, ◌⊎◌, List, [], map, length, count_by, All, Contains, IsTrue, Option, Some, None, IfSome, unwrap_or, ◌+◌, Bool, IsSomeAnd, if◌then◌else◌}
 use Rattle.std.specs.Option.{option_map_or}
 use Rattle.cs_types.specs.declared.task.Task.{Task}
 use Rattle.cs_types.specs.declared.event.Event.{Event}
@@ -7,7 +7,7 @@ use Rattle.cs_types.specs.declared.event.Event.TheVariants.{Block, Exit, Prctl}
 use Rattle.cs_types.specs.declared.reply.Pick.{Pick}
 use Rattle.cs_types.specs.Room.{RoomState, SiblingState, queued_on, task_of, sibling_of, running_on, online, online_from, to_run}
 use Rattle.cs_types.specs.Order.{foremost, outranks, first_of}
-use Rattle.cs_types.specs.Selection.{is_run, first_on, cookie_of, pid_of, snapshot_of, choice, eligible, is_forced}
+use Rattle.cs_types.specs.Selection.{is_run, first_on, cookie_of, pid_of, snapshot_of, eligible}
 use Rattle.cs_types.specs.declared.reply.Reply.{Reply}
 use Rattle.cs_types.specs.declared.reply.Reply.TheVariants.{Offline, Idle, HasThreads, NoTask, Awake, NoCaller, Refused, Already, NoGuard}
 use Rattle.cs_types.specs.Prctl.{makes_cookie, asked_by_call}
@@ -45,6 +45,14 @@ pub record AwaitsItsChoice (chosen : Option ℕ) (before now : SiblingState) : T
   -- It is pending exactly where its choice waits or it was pending before.
   pub pending : IsTrue now.pending ↔ ((now.waiting ≡ Some chosen) ⊎ IsTrue before.pending)
 
+-- the first of the tasks that are eligible on a sibling for a core cookie, none where none is
+abbrev pub first_eligible : RoomState → ℕ → ℕ → Option Task
+first_eligible room core cpu = first_of (eligible room core cpu)
+
+-- whether a task is queued on a sibling and none is eligible there
+abbrev pub has_none_eligible : RoomState → ℕ → ℕ → Bool
+has_none_eligible room core cpu = nat_lt 0 (length (queued_on room cpu)) && (length (eligible room core cpu) == 0)
+
 -- What a core-wide selection that a sibling made in the one room leaves in the other.
 pub record SelectsCoreWide (before : RoomState) (cpu : ℕ) (pick : Pick) (now : RoomState) : Type 0 where
   -- The lead is the earliest first, from the sibling that selects on, than which no other first is higher.
@@ -56,23 +64,19 @@ pub record SelectsCoreWide (before : RoomState) (cpu : ℕ) (pick : Pick) (now :
   -- The core cookie is the lead's.
   pub cookie : now.core_cookie ≡ cookie_of lead
   pub told : pick.core ≡ now.core_cookie
-  -- What each online sibling is to run is the first of the tasks that are eligible there, and idle where none is. So
-  -- it is idle or has that cookie.
+  -- What each online sibling is to run is the first of the tasks that are eligible there, and idle where none is.
   pub choices : (other : ℕ) → Contains (online before) other →
-      to_run (sibling_of now other) ≡ pid_of (choice before now.core_cookie other)
-  pub first : (other : ℕ) → choice before now.core_cookie other ≡ first_of (eligible before now.core_cookie other)
-  -- The sibling that selects runs it already. Any other that does not run it yet has it waiting, and is pending.
-  pub selector : RunsItsChoice (pid_of (choice before now.core_cookie cpu)) (sibling_of now cpu)
-  pub others : (other : ℕ) → Contains (online before) other → other ≢ cpu →
-      AwaitsItsChoice (pid_of (choice before now.core_cookie other)) (sibling_of before other) (sibling_of now other)
-  pub took : pick.run ≡ unwrap_or (pid_of (choice before now.core_cookie cpu)) 0
+      to_run (sibling_of now other) ≡ pid_of (first_eligible before now.core_cookie other)
+  -- So it is idle, or a task with the core cookie.
   pub matches : (other : ℕ) → Contains (online before) other →
-      (choice before now.core_cookie other ≡ None) ⊎ (cookie_of (choice before now.core_cookie other) ≡ now.core_cookie)
-  -- A sibling is forced idle exactly where it has a queued task and none is eligible.
-  pub forced : (other : ℕ) →
-      IsTrue (is_forced before now.core_cookie other)
-      ↔ ((0 < length (queued_on before other)) × (eligible before now.core_cookie other ≡ []))
-  pub count : now.forced ≡ count_by (is_forced before now.core_cookie) (online before)
+      (first_eligible before now.core_cookie other ≡ None) ⊎ (cookie_of (first_eligible before now.core_cookie other) ≡ now.core_cookie)
+  -- The sibling that selects runs it already. Any other that does not run it yet has it waiting, and is pending.
+  pub selector : RunsItsChoice (pid_of (first_eligible before now.core_cookie cpu)) (sibling_of now cpu)
+  pub others : (other : ℕ) → Contains (online before) other → other ≢ cpu →
+      AwaitsItsChoice (pid_of (first_eligible before now.core_cookie other)) (sibling_of before other) (sibling_of now other)
+  pub took : pick.run ≡ unwrap_or (pid_of (first_eligible before now.core_cookie cpu)) 0
+  -- The online siblings that are forced idle are those with a queued task and none that is eligible.
+  pub count : now.forced ≡ count_by (has_none_eligible before now.core_cookie) (online before)
   pub counted : pick.forced ≡ now.forced
   -- While one is, some sibling has a task.
   pub occupied : 0 < now.forced → 0 < now.occupation
