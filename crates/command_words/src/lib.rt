@@ -1,5 +1,5 @@
 //! The words of a command line: how a program's commands are read, and which of its own `coresched` is asked for. It is
-//! separate, since it knows nothing of what the commands do, and since nothing else stands on the parser of words.
+//! separate, since it knows nothing of what the commands do, and since no other crate calls the parser of words.
 #![tactic(auto)]
 
 mod command;

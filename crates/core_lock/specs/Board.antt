@@ -5,9 +5,9 @@ use Rattle.std.specs.List.{range_with_len}
 use mathlib.Core.Option as maybe
 use mathlib.Core.List.{IsPrefix}
 use lib.ListN.{get_elem?}
-use Rattle.atomic_table.specs.Table.{State, Me, Step}
+use Rattle.atomic_table.specs.Table.{State, Me, Step as TableStep}
 use Rattle.cs_types.specs.declared.event.Actor.{Actor}
-use Rattle.cs_types.specs.declared.event.Step.{Step as Made}
+use Rattle.cs_types.specs.declared.event.Step.{Step}
 use Rattle.cs_types.specs.declared.reply.Reply.{Reply}
 use Rattle.cs_types.specs.declared.reply.Entry.{Entry}
 use Rattle.cs_types.specs.Room.{Opening}
@@ -19,7 +19,7 @@ use Rattle.core_lock.specs.declared.view.View.TheVariants.{Gone, Idle, Waiting, 
 use Rattle.core_lock.specs.Lists.{list_at, actor_of, HasNoList, AreLists, events_first}
 
 -- the entry of a step with its reply
-abbrev pub entry_with : Made → Reply → Entry
+abbrev pub entry_with : Step → Reply → Entry
 entry_with made reply = record { actor = made.actor; event = made.event; reply = reply }
 
 -- what is known of the list of a number before its first step
@@ -35,11 +35,11 @@ pub record Books : Type 0 where
   pub ticket : ℕ
   pub owner : ℕ → ℕ
   pub made : ℕ → ℕ
-  pub left : List (List Made)
+  pub left : List (List Step)
   pub queue : ℕ → ℕ
 
 -- A seat has a list of which so many steps have a ticket and are not made.
-pub record IsOwned (lists : List (List Made)) (books : Books) (seat drawn : ℕ) (has : Progress) : Type 0 where
+pub record IsOwned (lists : List (List Step)) (books : Books) (seat drawn : ℕ) (has : Progress) : Type 0 where
   pub number : has.number < length lists
   pub owner : books.owner has.number ≡ seat
   pub made : books.made has.number ≡ has.made
@@ -48,7 +48,7 @@ pub record IsOwned (lists : List (List Made)) (books : Books) (seat drawn : ℕ)
   pub note : has.note ≤ length books.past
 
 -- A seat waits with a ticket. No other has drawn it, and it is not served yet, or the room is at home.
-pub record IsWaiting (lists : List (List Made)) (books : Books) (seat : ℕ) (has : Progress) (ticket : ℕ) : Type 0 where
+pub record IsWaiting (lists : List (List Step)) (books : Books) (seat : ℕ) (has : Progress) (ticket : ℕ) : Type 0 where
   pub owned : IsOwned lists books seat 1 has
   pub drew : books.queue ticket ≡ seat
   pub not_served : length books.past ≤ ticket
@@ -56,7 +56,7 @@ pub record IsWaiting (lists : List (List Made)) (books : Books) (seat : ℕ) (ha
   pub not_out : books.out ≡ true → length books.past < ticket
 
 -- A seat has the turn: its ticket is served, the room is out, and it has seen the whole history.
-pub record IsHolding (lists : List (List Made)) (books : Books) (seat : ℕ) (has : Progress) (ticket : ℕ) : Type 0 where
+pub record IsHolding (lists : List (List Step)) (books : Books) (seat : ℕ) (has : Progress) (ticket : ℕ) : Type 0 where
   pub owned : IsOwned lists books seat 1 has
   pub drew : books.queue ticket ≡ seat
   pub served : ticket ≡ length books.past
@@ -93,7 +93,8 @@ module _ {R : Type 0} (opening : R → Opening) (history : R → History) (spare
     pub ahead : books.out ≡ true → length books.past < books.ticket
     pub busy : books.out ≡ true → (number : ℕ) × (number < length begun.lists)
         × (books.made number + length (list_at books.left number) < length (list_at begun.lists number))
-    -- there is room for each step that has a ticket or may still draw one, and no ticket passes what a word holds
+    -- there is a place for the entry of each step that has a ticket or may still draw one, and no ticket passes what a word
+    -- holds
     pub enough : books.ticket + sum_by length books.left ≤ spare begun.room
     pub fits : spare begun.room < 2 ^ 64
     pub lists : AreLists (opening begun.room).scenario.siblings begun.lists
@@ -115,13 +116,13 @@ module _ {R : Type 0} (opening : R → Opening) (history : R → History) (spare
     pub more : 0 < spare room
 
   -- a look: where the seat's own ticket is served, it has the turn, and else nothing changed
-  abbrev pub looked : Step (Option R) → Me (Option R) (View R) → ℕ → Me (Option R) (View R) → Type 0
+  abbrev pub looked : TableStep (Option R) → Me (Option R) (View R) → ℕ → Me (Option R) (View R) → Type 0
   looked at before found now = (begun : Beginning R) (has : Progress) (ticket : ℕ) → before ≡ (Waiting begun has ticket, []) →
       (found ≡ ticket → (room : R) × HasTurn begun has ticket room now) × (found ≢ ticket → now ≡ before)
 
 module _ {R : Type 0} (opening : R → Opening) where
   -- A seat made a step after this history, and has passed the turn on.
-  pub record HasMade (begun : Beginning R) (has : Progress) (past : History) (made : Made) (reply : Reply) (now : Me (Option R) (View R)) : Type 0 where
+  pub record HasMade (begun : Beginning R) (has : Progress) (past : History) (made : Step) (reply : Reply) (now : Me (Option R) (View R)) : Type 0 where
     pub me : now ≡ (Idle begun (record has { made = has.made + 1; seen = past ++ entry_with made reply ∷ [] } ∷ []), [])
     pub legal : IsLegal (opening begun.room) (past ++ entry_with made reply ∷ [])
 
@@ -131,17 +132,17 @@ module _ {R : Type 0} where
   first_view begun = Idle begun (map fresh (range_with_len 0 (length begun.lists)))
 
   -- a ticket was drawn
-  abbrev pub drawn : Step (Option R) → Me (Option R) (View R) → ℕ → Me (Option R) (View R) → Type 0
+  abbrev pub drawn : TableStep (Option R) → Me (Option R) (View R) → ℕ → Me (Option R) (View R) → Type 0
   drawn at before found now = (begun : Beginning R) (has : Progress) → before ≡ (Idle begun (has ∷ []), []) → now ≡ (Waiting begun has found, [])
 
   -- the turn was passed on: the room is given back, and its history is seen
-  abbrev pub passed : (R → History) → Step (Option R) → Me (Option R) (View R) → ℕ → Me (Option R) (View R) → Type 0
+  abbrev pub passed : (R → History) → TableStep (Option R) → Me (Option R) (View R) → ℕ → Me (Option R) (View R) → Type 0
   passed history at before found now = (begun : Beginning R) (has : Progress) (ticket : ℕ) (room : R) →
       before ≡ (Holding begun has ticket, (0, Some room) ∷ []) →
       now ≡ (Idle begun (record has { made = has.made + 1; seen = history room } ∷ []), [])
 
   -- the length was read, and is noted
-  abbrev pub noted : Step (Option R) → Me (Option R) (View R) → ℕ → Me (Option R) (View R) → Type 0
+  abbrev pub noted : TableStep (Option R) → Me (Option R) (View R) → ℕ → Me (Option R) (View R) → Type 0
   noted at before found now = (begun : Beginning R) (has : Progress) → before ≡ (Idle begun (has ∷ []), []) →
       (now ≡ (Idle begun (record has { note = found; readings = has.readings + 1 } ∷ []), [])) × (length has.seen ≤ found) × (has.note ≤ found)
 

@@ -19,7 +19,7 @@ use Rattle.cs_types.specs.declared.task.Policy.{Policy}
 use Rattle.cs_types.specs.declared.task.Policy.TheVariants.{Stop, Deadline, Fifo, Rr, Fair}
 use Rattle.cs_types.specs.declared.task.Task.{Task}
 use Rattle.cs_types.specs.Order.{foremost, class_of, priority_of, goes_before, first_of}
-use Rattle.cs_types.specs.Queue.{top_of, Key, key_cmp, Seat, seat_cmp, Spot, spot_cmp, rank_by, entry_of, queue_of}
+use Rattle.cs_types.specs.Queue.{top_of, Key, key_cmp, Seat, seat_cmp, Spot, spot_cmp, rank_by, seat_with_pid, queue_of}
 use Rattle.cs_types.proofs.Foremost.{find_passes, find_narrower, find_same, each_of_all, all_of_each, each_weaker, foremost_none, not_before_itself}
 
 -- ---- the orders
@@ -290,11 +290,11 @@ higher_by-seats c d e f p q v w s t low_p low_q =
 
 -- a task goes before another where its seat is less
 pub goes_before-seats : (a b : Task) → priority_of a.spec.policy ≤ 99 → priority_of b.spec.policy ≤ 99 →
-    is_lt (seat_cmp (entry_of a).0 (entry_of b).0) ≡ goes_before a b
+    is_lt (seat_cmp (seat_with_pid a).0 (seat_with_pid b).0) ≡ goes_before a b
 goes_before-seats a b low_a low_b =
-    is_lt-seat_cmp (entry_of a).0 (entry_of b).0
+    is_lt-seat_cmp (seat_with_pid a).0 (seat_with_pid b).0
     ∙ ap (λ r. ltb (class_of a.spec.policy) (class_of b.spec.policy) || (eqb (class_of a.spec.policy) (class_of b.spec.policy)
-    && (ltb r (entry_of b).0.1.0 || (eqb r (entry_of b).0.1.0 && ltb a.stamp b.stamp)))) (rank_by-class a.spec.policy a.deadline a.vtime)
+    && (ltb r (seat_with_pid b).0.1.0 || (eqb r (seat_with_pid b).0.1.0 && ltb a.stamp b.stamp)))) (rank_by-class a.spec.policy a.deadline a.vtime)
     ∙ ap (λ r. ltb (class_of a.spec.policy) (class_of b.spec.policy) || (eqb (class_of a.spec.policy) (class_of b.spec.policy)
     && (ltb (rank_in (class_of a.spec.policy) a.deadline (priority_of a.spec.policy) a.vtime) r
     || (eqb (rank_in (class_of a.spec.policy) a.deadline (priority_of a.spec.policy) a.vtime) r && ltb a.stamp b.stamp))))
@@ -306,11 +306,11 @@ goes_before-seats a b low_a low_b =
 pub top_of-queue_of : (tasks : List Task) → All (λ task. priority_of task.spec.policy ≤ 99) tasks →
     top_of (queue_of tasks) ≡ option_map (λ task. task.spec.pid) (first_of tasks)
 top_of-queue_of tasks low =
-    top_of-from_entries seat_total (map entry_of tasks)
-    ∙ ap (option_map (λ (entry : Seat × ℕ). entry.1)) (foremost-map (λ a b. is_lt (seat_cmp a.0 b.0)) entry_of tasks)
-    ∙ pids (foremost (λ a b. is_lt (seat_cmp (entry_of a).0 (entry_of b).0)) tasks)
+    top_of-from_entries seat_total (map seat_with_pid tasks)
+    ∙ ap (option_map (λ (entry : Seat × ℕ). entry.1)) (foremost-map (λ a b. is_lt (seat_cmp a.0 b.0)) seat_with_pid tasks)
+    ∙ pids (foremost (λ a b. is_lt (seat_cmp (seat_with_pid a).0 (seat_with_pid b).0)) tasks)
     ∙ ap (option_map (λ (task : Task). task.spec.pid))
     (foremost_alike (λ task. priority_of task.spec.policy ≤ 99) _ goes_before goes_before-seats tasks (recursion_from_All _ tasks low)) where
-      pids : (first : Option Task) → option_map (λ (entry : Seat × ℕ). entry.1) (option_map entry_of first) ≡ option_map (λ task. task.spec.pid) first
+      pids : (first : Option Task) → option_map (λ (entry : Seat × ℕ). entry.1) (option_map seat_with_pid first) ≡ option_map (λ task. task.spec.pid) first
       pids None = refl
       pids (Some task) = refl

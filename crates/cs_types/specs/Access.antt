@@ -31,11 +31,11 @@ abbrev pub kernel_rules : TaskSpec → TaskSpec → List Rule
 kernel_rules caller target =
     -- a task of the same thread group
     record { decides = caller.tgid == target.tgid; allows = true; asks = [] }
-    -- another user's, without CAP_SYS_PTRACE
+    -- another user's task, and the caller has no CAP_SYS_PTRACE
     ∷ record { decides = not (is_same_user caller.creds target.creds) && not caller.creds.cap; allows = false; asks = [] }
-    -- one that may not be dumped, without it
+    -- one that may not be dumped, and the caller has none
     ∷ record { decides = is_undumpable target.creds && not caller.creds.cap; allows = false; asks = [] }
-    -- one that has CAP_SYS_PTRACE, without it
+    -- one that has CAP_SYS_PTRACE, and the caller has none
     ∷ record { decides = target.creds.cap && not caller.creds.cap; allows = false; asks = [] }
     ∷ []
 

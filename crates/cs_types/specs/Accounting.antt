@@ -9,8 +9,8 @@ use Rattle.cs_types.specs.Room.{RoomState, Interval, task_of, sibling_of, online
 
 -- ---- intervals
 
--- what each of them is charged: the time, or where the count or the occupation is above 1 the time times the count, shared
--- among the siblings that had a task, rounded down
+-- what an interval charges each task that it charges: its time, or where the count or the occupation is above 1 its time
+-- times the count, shared among the siblings that had a task, rounded down
 abbrev pub share : Interval → ℕ
 share interval =
     let delta = interval.to - interval.from in

@@ -15,11 +15,12 @@ pending room = filter (λ cpu. (sibling_of room cpu).pending) (online room)
 abbrev pub is_ready : Moment → ℕ → Bool
 is_ready moment cpu = is_fresh moment.ledger && is_some (sibling_of moment.room cpu).waiting
 
--- who schedules next: the lowest pending sibling that is ready, and where there is none, the lowest pending one
+-- the first of these siblings, none where there is none
 abbrev pub lowest : List ℕ → Option ℕ
 lowest [] = None
 lowest (cpu ∷ cpus) = Some cpu
 
+-- who schedules next: the lowest pending sibling that is ready, and where there is none, the lowest pending one
 abbrev pub next_to_schedule : Moment → Option ℕ
 next_to_schedule moment = lowest (filter (is_ready moment) (pending moment.room) ++ pending moment.room)
 

@@ -52,7 +52,7 @@ leave room cpu = without_interval (set_one_away (move_off (charge room) cpu) cpu
 
 -- ---- coming back
 
--- It runs idle and is pending. What else it had when it left it has still.
+-- It runs idle and is pending, nothing waits for it, and it tries no steal. All else that it has stays.
 abbrev pub back : SiblingState → SiblingState
 back sibling = record sibling { online = true; run = None; pending = true; waiting = None; place = 0 }
 

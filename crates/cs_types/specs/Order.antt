@@ -38,7 +38,7 @@ class_number class.Deadline = deadline_class
 class_number class.RealTime = real_time_class
 class_number class.Fair = fair_class
 
--- the number of a policy's class (`__setscheduler_prio`)
+-- the number of a policy's class (`__setscheduler_prio`, and for a stop task `sched_set_stop_task`)
 abbrev pub class_of : Policy → ℕ
 class_of Stop = stop_class
 class_of (Deadline relative) = deadline_class

@@ -66,7 +66,7 @@ abbrev pub is_in_scope : ℕ → TaskSpec → TaskSpec → Bool
 is_in_scope scope target task =
     if scope == 0 then task.pid == target.pid else (if scope == 1 then task.tgid == target.tgid else task.pgid == target.pgid)
 
--- the members of a scope of the target: the living tasks that are in it, by rising pid
+-- the members of a scope of the target: the living tasks that are in it, by rising pid (the order is this project's)
 abbrev pub members : RoomState → ℕ → Task → List Task
 members room scope target = filter (λ task. is_in_scope scope target.spec task.spec) room.tasks
 
@@ -106,7 +106,8 @@ abbrev pub first_answer : List Row → Reply
 first_answer [] = Zero
 first_answer (row ∷ rows) = if row.holds then row.answer else first_answer rows
 
--- the rows that come before a cookie is made
+-- the rows that come before a cookie is made (this project's rules are `NoCaller`, that EFAULT goes by ranges, and the
+-- limit of ENOMEM)
 unfoldable pub rows_before_making : RoomState → ℕ → Ask → List Row
 rows_before_making room pid ask =
     let caller = task_of room pid in

@@ -125,10 +125,10 @@ queued_of task =
       cookie = task.cookie;
     }
 
--- the seat of a task, with its pid
-abbrev pub entry_of : Task → Seat × ℕ
-entry_of task = (seat_of (queued_of task), task.spec.pid)
+-- a task's seat, with its pid
+abbrev pub seat_with_pid : Task → Seat × ℕ
+seat_with_pid task = (seat_of (queued_of task), task.spec.pid)
 
 -- the queue of these tasks
 abbrev pub queue_of : List Task → Seats
-queue_of tasks = from_entries (map entry_of tasks)
+queue_of tasks = from_entries (map seat_with_pid tasks)

@@ -34,7 +34,7 @@ moved_to room cpu task =
 abbrev pub moved : RoomState → ℕ → Task → RoomState
 moved room cpu task = enqueue room (moved_to room cpu task)
 
--- where a task of this sibling is at home while that is offline: on the lowest online one
+-- where a task of this sibling is at home: there, and while that is offline on the lowest online one
 abbrev pub online_home : RoomState → ℕ → ℕ
 online_home room cpu = if is_online room cpu then cpu else lowest_online room
 

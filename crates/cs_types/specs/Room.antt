@@ -63,12 +63,12 @@ pub record RoomState : Type 0 where
   pub next_cookie : ℕ
   -- the core cookie (`rq->core->core_cookie`)
   pub core_cookie : ℕ
-  -- the forced-idle count: how many siblings are forced idle (`rq->core->core_forceidle_count`)
+  -- the forced-idle count: how many siblings the last core-wide selection forced idle (`rq->core->core_forceidle_count`)
   pub forced : ℕ
   -- the occupation: for how many siblings a task was chosen (`rq->core->core_forceidle_occupation`)
   pub occupation : ℕ
   -- since when the open interval of forced idle has not been charged, none where none is open
-  -- (`rq->core->core_forceidle_start`)
+  -- (`rq->core->core_forceidle_start`, which is 0 in the kernel where none is open)
   pub started : Option ℕ
   -- the recorded intervals of forced idle, the oldest first (this project's)
   pub intervals : List Interval

@@ -79,7 +79,7 @@ pub record IsAsk (ask : Ask) : Type 0 where
   pub addr : ask.addr < 2 ^ 64
 
 -- the numbers of an event: a sibling of the core, a pid from 1 to 999999, an advance from 1 ns to 1 s, the arguments of a
--- call, those of a policy, a guard from 0 to 15
+-- call, what a policy names, a guard from 0 to 15
 abbrev pub IsEvent : ℕ → Event → Type 0
 IsEvent siblings (Turn cpu) = cpu < siblings
 IsEvent siblings (Resched cpu) = cpu < siblings

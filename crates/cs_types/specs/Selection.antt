@@ -66,7 +66,7 @@ abbrev pub is_forced : RoomState → ℕ → ℕ → Bool
 is_forced room core cpu = is_none (choice room core cpu) && is_some (first_on room cpu)
 
 -- how many online siblings are forced idle, and how many get a task (`core_forceidle_count` and
--- `core_forceidle_occupation`)
+-- `core_forceidle_occupation`; that the latter is kept also where none is forced idle is this project's rule)
 abbrev pub forced_count : RoomState → ℕ → ℕ
 forced_count room core = count_by (is_forced room core) (online room)
 

@@ -135,8 +135,8 @@ abbrev pub child_at_home : RoomState → Task → Task
 child_at_home room child =
     let home = online_home room child.home in record child { home = home; vtime = (sibling_of room home).least }
 
--- whether a fork is refused: as many of these tasks live as may, or the caller is a deadline task (`sched_fork`,
--- kernel/sched/core.c)
+-- whether a fork is refused: as many of these tasks live as may (this project's limit), or the caller is a deadline task
+-- (`sched_fork`, kernel/sched/core.c)
 abbrev pub may_not_fork : ℕ → List Task → Task → Bool
 may_not_fork limit tasks caller = (length tasks == limit) || (class_of caller.spec.policy == deadline_class)
 
@@ -158,8 +158,8 @@ fork room thread (Some caller) =
 abbrev pub advance : RoomState → ℕ → Stepped
 advance room delta = record { reply = Now (room.clock + delta); room = advanced room delta }
 
--- The open interval is charged (`sched_core_tick`; that it comes first is this project's rule). Then the sibling runs idle, or
--- its running task is asked to leave or not.
+-- The open interval is charged (`sched_core_tick`; that it comes first is this project's rule). Where the sibling runs idle,
+-- that is all. Else its running task is asked to leave or not.
 abbrev pub tick : RoomState → ℕ → Option Task → Stepped
 tick room cpu None = record { reply = Ticked false; room = charge room }
 tick room cpu (Some task) =
@@ -188,7 +188,8 @@ set_policy room policy (Some task) = record { reply = Set; room = with_policy_se
 
 -- ---- leaving and coming back
 
--- It is offline already, or it is the last, or it leaves.
+-- It is offline already, or it is the last that is online, or it leaves (`_cpu_down`, kernel/cpu.c, which answers EBUSY for
+-- the last; that an offline sibling is answered so is this project's rule).
 abbrev pub take_offline : RoomState → ℕ → Stepped
 take_offline room cpu =
     if not (is_online room cpu)
@@ -199,7 +200,7 @@ take_offline room cpu =
     else record { reply = Done; room = leave room cpu }
     )
 
--- It is online already, or it comes back.
+-- It is online already, or it comes back (`_cpu_up`, kernel/cpu.c; the answers are this project's).
 abbrev pub bring_online : RoomState → ℕ → Stepped
 bring_online room cpu =
     if is_online room cpu

@@ -74,8 +74,9 @@ is_taken_by cpu entry =
 abbrev pub pick_touches : Pick → ℕ
 pick_touches pick = if is_adopted pick.kind then 0 else 1
 
--- the cookie of a queued task leaves the order of cookies where it is not 0, and enters it where it is not 0
--- (`sched_core_dequeue` and `sched_core_enqueue` in `sched_core_update_cookie`, as of 6.1)
+-- a queued task leaves the cookie order where its old cookie is not 0, and enters it where its new one is not 0
+-- (`sched_core_dequeue` and `sched_core_enqueue` in `sched_core_update_cookie`, as of 6.1, which is this project's
+-- choice)
 abbrev pub cookie_touches : ℕ → Task → ℕ
 cookie_touches cookie task =
     if task.queued
@@ -91,7 +92,8 @@ abbrev pub set_touches : RoomState → Event → ℕ
 set_touches room (Prctl caller ask) = setting_touches (setting_of room caller ask)
 set_touches room event = 0
 
--- a task that leaves a queue and enters one touches twice: one whose policy is set, where it is queued
+-- a task that leaves a queue and enters one touches twice (this project's rule): one whose policy is set, where it is
+-- queued
 abbrev pub policy_touches : Option Task → ℕ
 policy_touches task = option_map_or (λ (task : Task). if task.queued then 2 else 0) task 0
 

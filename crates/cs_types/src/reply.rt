@@ -26,7 +26,7 @@ pub struct Pick {
     pub run: Pid,
     /// The core's cookie after the schedule, 0 for none.
     pub core: Cookie,
-    /// How many siblings are forced idle after the schedule.
+    /// How many siblings the last core-wide selection forced idle, as it stands after the schedule.
     pub forced: u8,
 }
 

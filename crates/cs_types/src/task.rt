@@ -32,7 +32,7 @@ pub enum Policy {
 impl Policy {
     ghost use Rattle.cs_types.specs.Order.{class_number, class_of};
 
-    /// The scheduling class of the policy (`__setscheduler_prio`).
+    /// The scheduling class of the policy (`__setscheduler_prio`, and for a stop task `sched_set_stop_task`).
     pub fn class(self) -> Class
         ensures { class_number result ≡ class_of self }
     {

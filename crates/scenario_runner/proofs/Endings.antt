@@ -26,7 +26,7 @@ use Rattle.cs_types.specs.Room.{Opening}
 use Rattle.cs_types.specs.History.{History}
 use Rattle.scenario_runner.specs.Outcomes.{opened_with, Outputs, BreaksOff}
 use Rattle.scenario_runner.specs.Written.{WritesOutput, IsShort}
-use Rattle.scenario_runner.specs.Ends.{Used, Failed, IsFaultless, IsBadGuard, EndsAs}
+use Rattle.scenario_runner.specs.Ends.{Used, FaultsRose, IsFaultless, IsBadGuard, EndsAs}
 
 -- ---- what is known once the input was read, or was not
 
@@ -120,7 +120,7 @@ ends_done IsOutcome caps source sink read value has is calm scenario outputs tau
     }
 
 pub ends_write_fault : {S K T : Type 0} (IsOutcome : Opening → History → Type 0) (caps : List ℕ) (source : Used S) (sink : Used K) (read : Result T Stop) (value : T) →
-    HasRead caps source read → read ≡ Ok value → Failed sink → (scenario : Scenario) →
+    HasRead caps source read → read ≡ Ok value → FaultsRose sink → (scenario : Scenario) →
     BreaksOff IsOutcome (opened_with caps scenario) (source.bytes source.before) (source.bytes source.after) (sink.bytes sink.before) (sink.bytes sink.after) →
     first_bad caps scenario.teaches ≡ None →
     EndsAs IsOutcome caps source sink status.WriteFault

@@ -24,8 +24,8 @@ pub record Used (D : Type 0) : Type 0 where
   pub after : D
 
 -- the count of the device's faults rose in the call
-abbrev pub Failed : {D : Type 0} → Used D → Type 0
-Failed device = device.faults device.before < device.faults device.after
+abbrev pub FaultsRose : {D : Type 0} → Used D → Type 0
+FaultsRose device = device.faults device.before < device.faults device.after
 
 -- that count stands as it stood at the call
 abbrev pub IsFaultless : {D : Type 0} → Used D → Type 0
@@ -49,7 +49,7 @@ pub record EndsAs {S K : Type 0} (IsOutcome : Opening → History → Type 0) (c
   -- its own words are never bad
   pub good_words : status ≢ BadWords
   -- only where the source failed
-  pub read_fault : status ≡ ReadFault → Failed source
+  pub read_fault : status ≡ ReadFault → FaultsRose source
   -- exactly where more bytes were read than an input may have, which a source tells that tells its bytes
   pub too_long : IfSome (source.bytes source.before) (λ _.
       (status ≡ TooLong) ↔ (input_limit < count_read (source.bytes source.before) (source.bytes source.after)))
@@ -63,7 +63,7 @@ pub record EndsAs {S K : Type 0} (IsOutcome : Opening → History → Type 0) (c
   pub bad_guard : (line : ℕ) (kind : GuardKind) → status ≡ BadGuard line kind →
       IsBadGuard caps line kind (source.bytes source.before) (source.bytes source.after)
   -- only where the sink failed, and then a prefix of the output was written
-  pub write_fault : status ≡ WriteFault → Failed sink × ((scenario : Scenario) ×
+  pub write_fault : status ≡ WriteFault → FaultsRose sink × ((scenario : Scenario) ×
       BreaksOff IsOutcome (opened_with caps scenario) (source.bytes source.before) (source.bytes source.after) (sink.bytes sink.before) (sink.bytes sink.after))
   -- nothing was written but where it is done or the sink failed
   pub unwritten : status ≢ Done → status ≢ WriteFault → sink.after ≡ sink.before
@@ -97,7 +97,7 @@ pub record EndsAsDrill {K : Type 0} (seed : ℕ) (sink : Used K) (status : Statu
   -- where it is done, what was written is the output of the drill
   pub done : status ≡ Done → DrillOutputs seed (sink.bytes sink.before) (sink.bytes sink.after)
   -- only where the sink failed, and then a prefix of that was written
-  pub write_fault : status ≡ WriteFault → Failed sink × DrillBreaksOff seed (sink.bytes sink.before) (sink.bytes sink.after)
+  pub write_fault : status ≡ WriteFault → FaultsRose sink × DrillBreaksOff seed (sink.bytes sink.before) (sink.bytes sink.after)
   -- no fault of the sink was counted, unless a write fault is the answer
   pub faultless : status ≢ WriteFault → IsFaultless sink
   -- without memory nothing was written

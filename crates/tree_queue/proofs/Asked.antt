@@ -8,7 +8,7 @@ use Rattle.std.proofs.lemmas.List.Elements.{All-filter, All-weaker}
 use Rattle.cs_types.specs.declared.task.Task.{Task}
 use Rattle.cs_types.specs.declared.queue.Queued.{Queued}
 use Rattle.cs_types.specs.Order.{goes_before, first_of, foremost}
-use Rattle.cs_types.specs.Queue.{Seat, seat_of, queued_of, entry_of}
+use Rattle.cs_types.specs.Queue.{Seat, seat_of, queued_of, seat_with_pid}
 use Rattle.cs_types.specs.Scenario.{IsPolicy}
 use Rattle.cs_types.proofs.Queues.{seat_total, seat_cmp-IsAntisymmetric, precedes, foremost-map, foremost_alike, goes_before-seats}
 use Rattle.task_table.specs.Table.{Rises}
@@ -38,17 +38,17 @@ filter_alike {X} P p q alike (x ∷ xs) all =
 module _ (tasks : List Task) (low : AllByRecursion IsLow tasks) where
   -- the first of the tasks whose seats pass, as it is told
   pub first_told : {X : Type 0} (told : Seat × ℕ → X) (p : Seat → Bool) (q : Task → Bool) → ((task : Task) → IsLow task → p (seat_of (queued_of task)) ≡ q task) →
-      option_map told (find (λ entry. p entry.0) (entries (seated (map queued_of tasks)))) ≡ option_map (λ (t : Task). told (entry_of t)) (first_of (filter q tasks))
+      option_map told (find (λ entry. p entry.0) (entries (seated (map queued_of tasks)))) ≡ option_map (λ (t : Task). told (seat_with_pid t)) (first_of (filter q tasks))
   first_told {X} told p q alike =
-      let list : map (λ (t : Queued). (seat_of t, t.pid)) (map queued_of tasks) ≡ map entry_of tasks = map_twice (λ (t : Queued). (seat_of t, t.pid)) queued_of tasks in
+      let list : map (λ (t : Queued). (seat_of t, t.pid)) (map queued_of tasks) ≡ map seat_with_pid tasks = map_twice (λ (t : Queued). (seat_of t, t.pid)) queued_of tasks in
       ap (option_map told)
       (found-from_entries seat_total seat_cmp-IsAntisymmetric p (map (λ (t : Queued). (seat_of t, t.pid)) (map queued_of tasks))
       ∙ ap (λ (es : List (Seat × ℕ)). foremost (precedes seat_total) (filter (λ entry. p entry.0) es)) list
-      ∙ ap (foremost (precedes seat_total)) (filter-map entry_of (λ entry. p entry.0) tasks ∙ ap (map entry_of) (filter_alike IsLow (λ t. p (seat_of (queued_of t))) q alike tasks low))
-      ∙ foremost-map (precedes seat_total) entry_of (filter q tasks))
-      ∙ twice (foremost (λ a b. precedes seat_total (entry_of a) (entry_of b)) (filter q tasks))
-      ∙ ap (option_map (λ (t : Task). told (entry_of t))) (foremost_alike (λ t. IsLow t × (q t ≡ true)) _ goes_before (λ a b of_a of_b. goes_before-seats a b of_a.0 of_b.0) (filter q tasks) (kept_by IsLow q tasks low)) where
-        twice : (first : Option Task) → option_map told (option_map entry_of first) ≡ option_map (λ (t : Task). told (entry_of t)) first
+      ∙ ap (foremost (precedes seat_total)) (filter-map seat_with_pid (λ entry. p entry.0) tasks ∙ ap (map seat_with_pid) (filter_alike IsLow (λ t. p (seat_of (queued_of t))) q alike tasks low))
+      ∙ foremost-map (precedes seat_total) seat_with_pid (filter q tasks))
+      ∙ twice (foremost (λ a b. precedes seat_total (seat_with_pid a) (seat_with_pid b)) (filter q tasks))
+      ∙ ap (option_map (λ (t : Task). told (seat_with_pid t))) (foremost_alike (λ t. IsLow t × (q t ≡ true)) _ goes_before (λ a b of_a of_b. goes_before-seats a b of_a.0 of_b.0) (filter q tasks) (kept_by IsLow q tasks low)) where
+        twice : (first : Option Task) → option_map told (option_map seat_with_pid first) ≡ option_map (λ (t : Task). told (seat_with_pid t)) first
         twice None = refl
         twice (Some task) = refl
 

@@ -18,7 +18,7 @@ use Rattle.view_words.specs.declared.command.Command.TheVariants as command
 use Rattle.scenario_input.specs.Input.{Reads, input_limit, count_read}
 use Rattle.scenario_input.specs.Teaching.{first_bad}
 use Rattle.scenario_runner.specs.Outcomes.{opened_with}
-use Rattle.scenario_runner.specs.Ends.{Used, Failed, IsFaultless, EndsAsReplay}
+use Rattle.scenario_runner.specs.Ends.{Used, FaultsRose, IsFaultless, EndsAsReplay}
 
 -- The input was read, without a fault, as the text of this scenario. It is no longer than an input may be, and each of the
 -- scenario's teach lines can be carried out, with guards that can be taught so many pairs each.
@@ -49,7 +49,7 @@ pub record EndsAsTold {S K T : Type 0} (IsOf : Opening → History → T → Typ
   -- where it is done, what was written is what is told of a replay of the input
   pub done : status ≡ Done → IsFaultless sink × ((told : T) × IsTold IsOf caps source told × (sink.bytes sink.after ≡ appended (sink.bytes sink.before) (text told)))
   -- it ends in a write fault only where the sink failed, and then a prefix of that was written
-  pub write_fault : status ≡ WriteFault → Failed sink × ((told : T) × IsTold IsOf caps source told × WritesPrefix (sink.bytes sink.before) (text told) (sink.bytes sink.after))
+  pub write_fault : status ≡ WriteFault → FaultsRose sink × ((told : T) × IsTold IsOf caps source told × WritesPrefix (sink.bytes sink.before) (text told) (sink.bytes sink.after))
   -- its own word is never bad
   pub good_words : status ≢ BadWords
   -- else nothing is written, and it ends as a replay of the same input ends
@@ -60,7 +60,7 @@ pub record EndsAsShown {S K : Type 0} (caps : List ℕ) (source : Used S) (sink 
   -- where it is done, the input was read as a scenario, and no fault of the sink was counted
   pub done : status ≡ Done → IsFaultless sink × ((scenario : Scenario) × IsTaken caps source scenario)
   -- it ends in a write fault only where the sink failed, and then the input was read as a scenario too
-  pub write_fault : status ≡ WriteFault → Failed sink × ((scenario : Scenario) × IsTaken caps source scenario)
+  pub write_fault : status ≡ WriteFault → FaultsRose sink × ((scenario : Scenario) × IsTaken caps source scenario)
   -- its own word is never bad
   pub good_words : status ≢ BadWords
   -- else nothing is written, and it ends as a replay of the same input ends
