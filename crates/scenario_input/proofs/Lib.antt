@@ -2,3 +2,4 @@ pub mod Inputs
 pub mod Stops
 pub mod Completes
 pub mod Lines
+pub mod FirstBad

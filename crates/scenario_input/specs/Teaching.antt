@@ -1,5 +1,7 @@
 -- Teaching: which teach line of a scenario is the first that cannot be carried out (this project's rule).
-use Rattle.std.specs.Prelude.{◌≡◌, ℕ, ◌==◌, nat_lt, not, if◌then◌else◌, List, [], ◌∷◌, ◌++◌, length, slice_index_or, Option, Some, None}
+use Rattle.std.specs.Prelude.{◌≡◌, ℕ, ◌==◌, nat_lt, not, if◌then◌else◌, List, [], ◌∷◌, ◌++◌, length, take, slice_get, slice_index_or, Option, Some, None}
+use Rattle.std.specs.List.{enumerate_from, filter_map}
+use Rattle.std.specs.Option.{option_map}
 use Rattle.cs_types.specs.declared.scenario.Teach.{Teach}
 use Rattle.cs_types.specs.Guards.{GuardList, taught, guards_on_bench}
 use Rattle.scenario_input.specs.declared.stop.Stop.{Stop}
@@ -20,20 +22,17 @@ pub record BadTeach : Type 0 where
   pub line : ℕ
   pub kind : GuardKind
 
--- what is wrong with this line, where something is, and else what was found of the lines behind it
-abbrev pub noted : Option GuardKind → ℕ → Option BadTeach → Option BadTeach
-noted (Some kind) line others = Some (record { line = line; kind = kind })
-noted None line others = others
+-- a teach line with which something is wrong after these others
+abbrev pub bad_line : List ℕ → List Teach → Teach → Option BadTeach
+bad_line caps earlier teach = option_map (λ kind. record { line = teach.line; kind = kind }) (fault_of caps earlier teach)
 
--- the first of the later lines with which something is wrong, where the guards have what the earlier ones say
-abbrev pub first_bad_after : List ℕ → List Teach → List Teach → Option BadTeach
-first_bad_after caps earlier [] = None
-first_bad_after caps earlier (teach ∷ rest) =
-    noted (fault_of caps earlier teach) teach.line (first_bad_after caps (earlier ++ teach ∷ []) rest)
+-- all such lines, each after those that stand before it
+abbrev pub bad_lines : List ℕ → List Teach → List BadTeach
+bad_lines caps teaches = filter_map (λ numbered. bad_line caps (take numbered.0 teaches) numbered.1) (enumerate_from 0 teaches)
 
--- the first of all teach lines with which something is wrong
+-- the first of them
 abbrev pub first_bad : List ℕ → List Teach → Option BadTeach
-first_bad caps teaches = first_bad_after caps [] teaches
+first_bad caps teaches = slice_get (bad_lines caps teaches) 0
 
 -- why the guards are not taught what these lines say: of a bad line the first, or there was no memory
 abbrev pub IsTeachStop : Option BadTeach → Stop → Type 0

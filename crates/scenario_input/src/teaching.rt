@@ -4,7 +4,7 @@ ghost use Rattle.std.specs.Prelude.{◌≡◌, List, None, OnOk, IfOk, IfErr, ma
 ghost use Rattle.cs_types.specs.declared.scenario.Teach.{Teach as SomeTeach};
 ghost use Rattle.cs_types.specs.Guards.{guards_on_bench};
 ghost use Rattle.ptrace_check.specs.Guards.{AreFresh};
-ghost use Rattle.scenario_input.specs.Teaching.{fault_of, noted, first_bad, Teaches, IsTeachStop};
+ghost use Rattle.scenario_input.specs.Teaching.{bad_line, first_bad, Teaches, IsTeachStop};
 
 use crate::stop::{GuardKind, Stop};
 use cs_outside::Guard;
@@ -20,7 +20,7 @@ fn teach<G: Guard>(guards: &mut Guards<G>, teach: &Teach) -> Result<(), Stop>
     ensures caps { guards.new.caps ≡ guards.old.caps }
     ensures stop { IfErr result (λ stop. (earlier : List SomeTeach) →
         guards.old.guards ≡ guards_on_bench earlier (length guards.old.caps) →
-        IsTeachStop (noted (fault_of guards.old.caps earlier teach.now) teach.now.line None) stop) }
+        IsTeachStop (bad_line guards.old.caps earlier teach.now) stop) }
 {
     match guards.teach(teach.guard, teach.from, teach.to) {
         TeachAnswer::Taught => Ok(()),

@@ -6,25 +6,23 @@ use Rattle.cs_types.specs.Guards.{GuardList, guards_on_bench}
 use Rattle.scenario_input.specs.declared.stop.Stop.{Stop}
 use Rattle.scenario_input.specs.declared.stop.Stop.TheVariants.{BadGuard, OutOfMemory, ReadFault, TooLong, BadScenario}
 use Rattle.scenario_input.specs.declared.stop.GuardKind.{GuardKind}
-use Rattle.scenario_input.specs.Teaching.{BadTeach, fault_of, noted, first_bad, first_bad_after, Teaches, IsTeachStop}
+use Rattle.std.specs.Option.{option_map, option_or}
+use Rattle.scenario_input.specs.Teaching.{BadTeach, bad_line, first_bad, Teaches, IsTeachStop}
+use Rattle.scenario_input.proofs.FirstBad.{first_bad_after, first_bad_is}
 use Rattle.scenario_input.proofs.teaching.taught.Goals as goal
 
 -- a line with which something is wrong is the first such one, whatever follows
-noted_first : (fault : Option GuardKind) (line : ℕ) (rest : Option BadTeach) (bad : BadTeach) → noted fault line None ≡ Some bad → noted fault line rest ≡ Some bad
-noted_first None line rest bad is = absurd cc
-noted_first (Some kind) line rest bad is = is
-
-stops_first : (fault : Option GuardKind) (line : ℕ) (rest : Option BadTeach) (stop : Stop) → IsTeachStop (noted fault line None) stop → IsTeachStop (noted fault line rest) stop
-stops_first fault line rest (BadGuard at kind) is = noted_first fault line rest (record { line = at; kind = kind }) is
-stops_first fault line rest OutOfMemory is = tt
-stops_first fault line rest ReadFault is = absurd is
-stops_first fault line rest TooLong is = absurd is
-stops_first fault line rest (BadScenario at kind) is = absurd is
+stops_first : (bad rest : Option BadTeach) (stop : Stop) → IsTeachStop bad stop → IsTeachStop (option_or bad rest) stop
+stops_first bad rest (BadGuard at kind) is = ap (λ (one : Option BadTeach). option_or one rest) is
+stops_first bad rest OutOfMemory is = tt
+stops_first bad rest ReadFault is = absurd is
+stops_first bad rest TooLong is = absurd is
+stops_first bad rest (BadScenario at kind) is = absurd is
 
 -- what is left of the lines, by the first of them
 rest_is : (caps : List ℕ) (teaches : List Teach) (index : ℕ) (d : Teach) → index < length teaches →
     first_bad_after caps (take index teaches) (drop index teaches)
-    ≡ noted (fault_of caps (take index teaches) (get_or teaches index d)) (get_or teaches index d).line
+    ≡ option_or (bad_line caps (take index teaches) (get_or teaches index d))
     (first_bad_after caps (take index teaches ++ get_or teaches index d ∷ []) (drop (index + 1) teaches))
 rest_is caps teaches index d below =
     let next : suc index ≡ index + 1 = omega arith in
@@ -37,20 +35,19 @@ took teaches index d below =
 
 -- The first line that stops is the first bad one.
 stop_first : (caps each : List ℕ) (guards : GuardList) (teaches : List Teach) (index : ℕ) (d : Teach) (stop : Stop) → index < length teaches → each ≡ caps →
-    guards ≡ guards_on_bench (take index teaches) (length caps) → first_bad caps teaches ≡ first_bad_after caps (take index teaches) (drop index teaches) →
-    ((earlier : List Teach) → guards ≡ guards_on_bench earlier (length each) →
-    IsTeachStop (noted (fault_of each earlier (get_or teaches index d)) (get_or teaches index d).line None) stop) →
+    guards ≡ guards_on_bench (take index teaches) (length caps) → first_bad_after caps [] teaches ≡ first_bad_after caps (take index teaches) (drop index teaches) →
+    ((earlier : List Teach) → guards ≡ guards_on_bench earlier (length each) → IsTeachStop (bad_line each earlier (get_or teaches index d)) stop) →
     IsTeachStop (first_bad caps teaches) stop
 stop_first caps each guards teaches index d stop below same known rest stops =
-    subst (λ (bad : Option BadTeach). IsTeachStop bad stop) (sym (rest ∙ rest_is caps teaches index d below))
-    (stops_first (fault_of caps (take index teaches) (get_or teaches index d)) (get_or teaches index d).line _ stop
-    (subst (λ (each : List ℕ). IsTeachStop (noted (fault_of each (take index teaches) (get_or teaches index d)) (get_or teaches index d).line None) stop) same
+    subst (λ (bad : Option BadTeach). IsTeachStop bad stop) (sym (first_bad_is caps teaches ∙ rest ∙ rest_is caps teaches index d below))
+    (stops_first (bad_line caps (take index teaches) (get_or teaches index d)) _ stop
+    (subst (λ (each : List ℕ). IsTeachStop (bad_line each (take index teaches) (get_or teaches index d)) stop) same
     (stops (take index teaches) (known ∙ ap (λ (each : List ℕ). guards_on_bench (take index teaches) (length each)) (sym same)))))
 
 -- A line that is taught leads to the next.
 record GoesOn (caps : List ℕ) (guards : GuardList) (teaches : List Teach) (index : ℕ) : Type 0 where
   known : guards ≡ guards_on_bench (take index teaches) (length caps)
-  rest : first_bad caps teaches ≡ first_bad_after caps (take index teaches) (drop index teaches)
+  rest : first_bad_after caps [] teaches ≡ first_bad_after caps (take index teaches) (drop index teaches)
 
 goes_on : (caps each : List ℕ) (guards now : GuardList) (teaches : List Teach) (index : ℕ) (d : Teach) → index < length teaches → each ≡ caps →
     GoesOn caps guards teaches index →
@@ -61,8 +58,9 @@ goes_on caps each guards now teaches index d below same so_far teach =
     record {
       known = made.guards ∙ (λ i. guards_on_bench (sym (took teaches index d below) i) (length (same i)));
       rest = so_far.rest ∙ rest_is caps teaches index d below
-          ∙ ap (λ (fault : Option GuardKind). noted fault line.line (first_bad_after caps (take index teaches ++ line ∷ []) (drop (index + 1) teaches)))
-          (ap (λ (each : List ℕ). fault_of each (take index teaches) line) (sym same) ∙ made.fits)
+          ∙ ap (λ (bad : Option BadTeach). option_or bad (first_bad_after caps (take index teaches ++ line ∷ []) (drop (index + 1) teaches)))
+          (ap (λ (each : List ℕ). bad_line each (take index teaches) line) (sym same)
+          ∙ ap (option_map (λ (kind : GuardKind). let bad : BadTeach = record { line = line.line; kind = kind } in bad)) made.fits)
           ∙ ap (λ (earlier : List Teach). first_bad_after caps earlier (drop (index + 1) teaches)) (sym (took teaches index d below));
     }
 
@@ -84,5 +82,5 @@ returns-clause-taught g c =
 
 pub returns-clause-all : goal.returns-clause-all
 returns-clause-all g c =
-    c.loop-line.invariant.rest
+    first_bad_is (map g.G.Guard.cap c.args.list.items) c.args.teaches.now ∙ c.loop-line.invariant.rest
     ∙ ap (first_bad_after (map g.G.Guard.cap c.args.list.items) (take c.loop-line.line-index c.args.teaches.now)) (drop_all c.loop-line.line-index c.args.teaches.now c.loop-line-test.false)

@@ -1,5 +1,6 @@
 use Rattle.std.proofs.Common.{◌≡◌, ℕ, Bool, true, false, cond, not, List, [], ◌∷◌, ◌++◌, length, refl, sym, ap, ◌∙◌, subst, arith, inl, inr, Option, Some, None}
 use Rattle.std.specs.Prelude.{nat_lt, IsTrue, ◌==◌, slice_index_or}
+use Rattle.std.specs.Option.{option_map}
 use Rattle.std.proofs.lemmas.Bool.{cases_Bool, ltb-true, ltb-false, ne_eqb, eq-eqb}
 use Rattle.cs_types.specs.declared.scenario.Teach.{Teach}
 use Rattle.cs_types.specs.Guards.{GuardState, GuardList, guard_of, with_guard, taught, guards_on_bench, is_bench}
@@ -9,7 +10,7 @@ use Rattle.ptrace_check.specs.declared.answer.TeachAnswer.{TeachAnswer}
 use Rattle.ptrace_check.specs.declared.answer.TeachAnswer.TheVariants as answer
 use Rattle.scenario_input.specs.declared.stop.GuardKind.{GuardKind}
 use Rattle.scenario_input.specs.declared.stop.GuardKind.TheVariants.{NoGuard, Full}
-use Rattle.scenario_input.specs.Teaching.{fault_of, noted}
+use Rattle.scenario_input.specs.Teaching.{BadTeach, fault_of}
 use Rattle.scenario_input.proofs.Lines.{guard_is, no_guard_is, guards_more}
 use Rattle.scenario_input.proofs.teaching.teach.Goals as goal
 
@@ -73,11 +74,11 @@ returns-in-NoGuard-clause-stop g c earlier known =
     let guards = c.args.guards.now.guards in
     let teach = c.args.teach.now in
     let says = subst (IsTeachAnswer (guard_of guards teach.guard) (cap_of c.args.guards.now.caps teach.guard)) c.in-NoGuard.is c.teach.ensures.answer in
-    ap (λ (fault : Option GuardKind). noted fault teach.line None) (no_guard_fault guards c.args.guards.now.caps earlier teach known says)
+    ap (option_map (λ (kind : GuardKind). let bad : BadTeach = record { line = teach.line; kind = kind } in bad)) (no_guard_fault guards c.args.guards.now.caps earlier teach known says)
 
 pub returns-in-Full-clause-stop : goal.returns-in-Full-clause-stop
 returns-in-Full-clause-stop g c earlier known =
     let guards = c.args.guards.now.guards in
     let teach = c.args.teach.now in
     let says = subst (IsTeachAnswer (guard_of guards teach.guard) (cap_of c.args.guards.now.caps teach.guard)) c.in-Full.is c.teach.ensures.answer in
-    ap (λ (fault : Option GuardKind). noted fault teach.line None) (full_fault guards c.args.guards.now.caps earlier teach known c.in-Full.cap says)
+    ap (option_map (λ (kind : GuardKind). let bad : BadTeach = record { line = teach.line; kind = kind } in bad)) (full_fault guards c.args.guards.now.caps earlier teach known c.in-Full.cap says)
