@@ -17,7 +17,7 @@ use Rattle.std.proofs.lemmas.List.Elements.{All-filter, filter-append, filter_pa
 use Rattle.std.proofs.lemmas.List.Filters.{sum_by-filter_both}
 use Rattle.std.proofs.lemmas.List.Kept.{AllPairs-filter}
 use Rattle.std.proofs.lemmas.List.Sums.{length-filter, sum_by-cons, sum_by-le, sum_by-remove, sum_by-set, sum_by_push}
-use Rattle.cs_types.proofs.Selections.{get_or-set_alike}
+use Rattle.cs_types.proofs.Lists.{get_or-set_alike}
 use Rattle.cs_types.proofs.Queues.{said, len-from_sorted}
 use Rattle.cookie_refs.specs.declared.refs.CookieCount.{CookieCount}
 use Rattle.cookie_refs.specs.Inside.{IsRising, AreCookies, IsAt, count_in, entries_of, live_of}

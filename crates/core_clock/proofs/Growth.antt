@@ -16,8 +16,8 @@ use Rattle.cs_types.specs.declared.task.Policy.TheVariants.{Stop, Rr, Fair}
 use Rattle.cs_types.specs.Room.{RoomState, SiblingState, absent, has_pid, task_of, sibling_of, running_on, with_task}
 use Rattle.cs_types.specs.Selection.{is_run}
 use Rattle.cs_types.specs.Time.{grown_by, grown}
-use Rattle.cs_types.proofs.Homes.{running_is_found}
-use Rattle.cs_types.proofs.Times.{growth-le}
+use Rattle.cs_laws.proofs.Homes.{running_is_found}
+use Rattle.cs_types.proofs.Growth.{growth-le}
 use Rattle.task_table.specs.Table.{Rises}
 use Rattle.task_table.proofs.Tables.{changed_each, none_found}
 use Rattle.core_clock.specs.Time.{with_grown}

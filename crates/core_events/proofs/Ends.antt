@@ -9,12 +9,12 @@ use Rattle.cs_types.specs.Scenario.{IsPlayable}
 use Rattle.cs_types.specs.History.{History, Moment, next, AreEvents, IsLegal, moment_of, fold_of, reply_to}
 use Rattle.cs_types.specs.Drain.{pending, next_to_schedule, entry_by_end, IsEndFrom, IsDrained}
 use Rattle.cs_types.specs.Laws.{IsSettled, RunOneCookie}
-use Rattle.cs_types.proofs.Histories.{moment_of-push}
-use Rattle.cs_types.proofs.Siblings.{length-fold_of}
-use Rattle.cs_types.proofs.Drains.{next_is_pending, next_is_none, nobody_pending, AreEvents-drained, IsLegal-drained}
-use Rattle.cs_types.proofs.Measures.{measure, pending_parts}
-use Rattle.cs_types.proofs.Drained.{measure-moment_of, measure-push, none_at_zero}
-use Rattle.cs_types.proofs.Trust.{settled-moment_of, one_cookie}
+use Rattle.cs_laws.proofs.Histories.{moment_of-push}
+use Rattle.cs_laws.proofs.Siblings.{length-fold_of}
+use Rattle.cs_laws.proofs.Drains.{next_is_pending, next_is_none, nobody_pending, AreEvents-drained, IsLegal-drained}
+use Rattle.cs_laws.proofs.Measures.{measure, pending_parts}
+use Rattle.cs_laws.proofs.Drained.{measure-moment_of, measure-push, none_at_zero}
+use Rattle.cs_laws.proofs.Trust.{settled-moment_of, one_cookie}
 
 -- ---- one entry
 

@@ -19,9 +19,9 @@ use Rattle.cs_types.specs.Step.{Stepped, step}
 use Rattle.cs_types.specs.Touches.{is_selected, is_adopted, pick_of, is_selection, scheduler_of, is_fresh, LedgerEntry, Ledger, ledger_entry, task_number, pick_number, own_number}
 use Rattle.cs_types.specs.History.{History, Moment, moment_of, fold_of, ledger_of, reply_to, entry_of, history_of, step_at, next}
 use Rattle.cs_types.specs.Drain.{next_to_schedule}
-use Rattle.cs_types.proofs.Histories.{moment_of-push, history_of-push}
-use Rattle.cs_types.proofs.Numbers.{task_number-cons, pick_number-cons, own_number-cons, fresh-ledger_of}
-use Rattle.cs_types.proofs.Timely.{IsTimely, IsTimelyTask}
+use Rattle.cs_laws.proofs.Histories.{moment_of-push, history_of-push}
+use Rattle.cs_laws.proofs.Numbers.{task_number-cons, pick_number-cons, own_number-cons, fresh-ledger_of}
+use Rattle.cs_laws.proofs.Timely.{IsTimely, IsTimelyTask}
 use Rattle.core_lanes.specs.declared.queue.SiblingQueue.{Ghosts}
 use Rattle.core_lanes.specs.declared.lane.Lane.{Lane}
 use Rattle.core_lanes.specs.Lanes.{lane_state}

@@ -5,7 +5,7 @@ use Rattle.std.proofs.lemmas.List.Elements.{All-weaker}
 use Rattle.cs_types.specs.declared.scenario.Scenario.{Scenario}
 use Rattle.cs_types.specs.Scenario.{IsTask, IsPlayable}
 use Rattle.cs_types.specs.Room.{first_pid}
-use Rattle.cs_types.proofs.Tasks.{first_pid-le}
+use Rattle.cs_laws.proofs.Tasks.{first_pid-le}
 use Rattle.cs_types.specs.History.{AreEvents, history_of}
 use Rattle.core_lanes.specs.declared.queue.SiblingQueue.{Ghosts}
 use Rattle.core_events.specs.Machine.{Machine}

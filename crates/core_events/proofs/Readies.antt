@@ -11,8 +11,8 @@ use Rattle.cs_types.specs.declared.task.Task.{Task}
 use Rattle.cs_types.specs.Room.{RoomState, SiblingState, Waiting, sibling_of, queued_on}
 use Rattle.cs_types.specs.Selection.{schedule, balance, pick_anew, adopt_or_pick_anew}
 use Rattle.cs_types.specs.Accounting.{charge}
-use Rattle.cs_types.proofs.Times.{vtimes_bounded, siblings_bounded}
-use Rattle.cs_types.proofs.Accounts.{charge-again, account_of, charged_up_to}
+use Rattle.cs_laws.proofs.Times.{vtimes_bounded, siblings_bounded}
+use Rattle.cs_laws.proofs.Accounts.{charge-again, account_of, charged_up_to}
 use Rattle.core_lanes.specs.declared.queue.SiblingQueue.{Ghosts}
 use Rattle.core_lanes.specs.Lanes.{HasLowTimes, lane_state}
 use Rattle.core_lanes.specs.Numbers.{Numbers, touched, is_fresh_by}

@@ -16,9 +16,9 @@ use Rattle.cs_types.specs.Room.{Opening, RoomState, SiblingState, Waiting, has_p
 use Rattle.cs_types.specs.Touches.{own_number, pick_number}
 use Rattle.cs_types.specs.View.{cpu_view, end_view, task_after, task_view, forced_of}
 use Rattle.cs_types.specs.History.{History, AreEvents, IsLegal, moment_of, fold_of, ledger_of}
-use Rattle.cs_types.proofs.Spots.{spot_of, spot_at}
-use Rattle.cs_types.proofs.Fits.{IsAt}
-use Rattle.cs_types.proofs.Trust.{holds-moment_of}
+use Rattle.cs_laws.proofs.Spots.{spot_of, spot_at}
+use Rattle.cs_laws.proofs.Fits.{IsAt}
+use Rattle.cs_laws.proofs.Trust.{holds-moment_of}
 use Rattle.core_lanes.specs.declared.queue.SiblingQueue.{Ghosts}
 use Rattle.core_lanes.specs.declared.lane.Lane.{Lane}
 use Rattle.core_lanes.specs.Lanes.{lane_state, lane_view, RunTheirOwn}

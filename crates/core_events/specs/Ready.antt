@@ -3,7 +3,7 @@ use Rattle.std.specs.Prelude.{ℕ, ◌+◌, ◌*◌, ◌^◌, ◌<◌, List, [],
 use Rattle.cs_types.specs.Scenario.{IsEvent}
 use Rattle.cs_types.specs.declared.event.Event.{Event}
 use Rattle.cs_types.specs.Room.{Interval, sibling_of}
-use Rattle.cs_types.proofs.Timely.{IsTimely}
+use Rattle.cs_laws.proofs.Timely.{IsTimely}
 use Rattle.core_lanes.specs.declared.queue.SiblingQueue.{Ghosts}
 use Rattle.core_lanes.specs.Charges.{IsPaid}
 use Rattle.core_pick.specs.Schedules.{own_of}

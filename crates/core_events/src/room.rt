@@ -121,8 +121,8 @@ impl<Q: SiblingQueue, G: Guard> CoreRoom<Q, G> {
 
 impl<Q: SiblingQueue, G: Guard> Room for CoreRoom<Q, G> {
     ghost use Rattle.cs_types.specs.History.{history_of};
-    ghost use Rattle.cs_types.proofs.Histories.{IsLegal-history_of};
-    ghost use Rattle.cs_types.proofs.Trust.{consistent-moment_of, settled-moment_of};
+    ghost use Rattle.cs_laws.proofs.Histories.{IsLegal-history_of};
+    ghost use Rattle.cs_laws.proofs.Trust.{consistent-moment_of, settled-moment_of};
 
     ghost opening = { λ room. room.opening };
 

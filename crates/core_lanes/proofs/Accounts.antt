@@ -7,7 +7,7 @@ use Rattle.std.proofs.lemmas.List.Elements.{filter_map-append}
 use Rattle.cs_types.specs.declared.task.Task.{Task}
 use Rattle.cs_types.specs.Room.{RoomState, Interval, has_pid, is_online}
 use Rattle.cs_types.specs.Accounting.{charged_on, charged, up_to_now, open_interval}
-use Rattle.cs_types.proofs.Tasks.{found_again}
+use Rattle.cs_laws.proofs.Tasks.{found_again}
 use Rattle.core_lanes.proofs.Lists.{range_more}
 use Rattle.core_lanes.specs.Account.{charged_at}
 

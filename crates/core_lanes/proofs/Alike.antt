@@ -9,7 +9,7 @@ use Rattle.cs_types.specs.declared.queue.Queued.{Queued}
 use Rattle.cs_types.specs.Order.{class_of, priority_of}
 use Rattle.cs_types.specs.Queue.{rank_by, queued_of}
 use Rattle.cs_types.specs.Room.{has_pid}
-use Rattle.cs_types.proofs.Spots.{replaced_by}
+use Rattle.cs_laws.proofs.Spots.{replaced_by}
 use Rattle.task_table.specs.Table.{Rises}
 use Rattle.core_lanes.specs.Queued.{queued_at, is_peer_of, is_alike, IsOf}
 use Rattle.core_lanes.proofs.Queues.{is_on, is_of, queued_at-map}

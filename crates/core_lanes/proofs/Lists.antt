@@ -12,7 +12,7 @@ use Rattle.std.proofs.lemmas.List.Sums.{length-filter}
 use Rattle.std.proofs.lemmas.List.Elements.{All-head, All-tail, filter_agree}
 use Rattle.cs_types.specs.declared.task.Task.{Task}
 use Rattle.cs_types.specs.Order.{first_of}
-use Rattle.cs_types.proofs.First.{first_of_reduce}
+use Rattle.cs_laws.proofs.First.{first_of_reduce}
 use Rattle.std.proofs.lemmas.List.Recursion.{or_push}
 
 -- ---- lists that stand for others

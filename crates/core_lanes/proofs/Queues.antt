@@ -7,7 +7,7 @@ use Rattle.cs_types.specs.declared.task.Task.{Task}
 use Rattle.cs_types.specs.declared.queue.Queued.{Queued}
 use Rattle.cs_types.specs.Queue.{queued_of}
 use Rattle.cs_types.specs.Room.{has_pid}
-use Rattle.cs_types.proofs.Spots.{replaced_by}
+use Rattle.cs_laws.proofs.Spots.{replaced_by}
 use Rattle.task_table.specs.Table.{Rises, RisesFrom}
 use Rattle.core_lanes.specs.Queued.{queued_among, queued_at, others, IsOf}
 use Rattle.std.proofs.lemmas.List.Elements.{filter_agree, All-head, All-tail, All-weaker, All-from_recursion, All-contains_itself}

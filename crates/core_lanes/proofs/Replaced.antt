@@ -6,7 +6,7 @@ use Rattle.task_table.specs.Table.{Table, IsSound as IsTable, Rises, RisesFrom}
 use Rattle.std.proofs.lemmas.List.Elements.{All-map, All-weaker}
 use Rattle.cs_types.specs.declared.task.Task.{Task}
 use Rattle.cs_types.specs.Room.{has_pid, with_task}
-use Rattle.cs_types.proofs.Spots.{replaced_by, find-replaced}
+use Rattle.cs_laws.proofs.Spots.{replaced_by, find-replaced}
 use Rattle.core_lanes.specs.Queued.{queued_at, IsOf, HasOwnStamp, AreStamped}
 use Rattle.core_lanes.specs.declared.queue.SiblingQueue.{Ghosts}
 use Rattle.core_lanes.specs.declared.lanes.Core.{Core}
@@ -17,7 +17,7 @@ use Rattle.core_lanes.proofs.Queues.{is_on, others-absent, others-replaced}
 use Rattle.core_lanes.proofs.Stays.{as_many_bare}
 use Rattle.task_table.proofs.Tables.{changed_each}
 use Rattle.std.proofs.lemmas.List.{map-id}
-use Rattle.cs_types.proofs.Tasks.{found_again}
+use Rattle.cs_laws.proofs.Tasks.{found_again}
 use Rattle.cs_types.proofs.Foremost.{find_passes}
 
 -- what holds of all, and of the one that takes a place

@@ -6,9 +6,9 @@ use Rattle.cs_types.specs.declared.task.TaskSpec.{TaskSpec}
 use Rattle.cs_types.specs.Scenario.{IsPolicy}
 use Rattle.cs_types.specs.Queue.{queued_of}
 use Rattle.cs_types.specs.Room.{has_pid, with_task}
-use Rattle.cs_types.proofs.Spots.{replaced_by}
+use Rattle.cs_laws.proofs.Spots.{replaced_by}
 use Rattle.cs_types.proofs.Foremost.{find_passes}
-use Rattle.cs_types.proofs.Tasks.{found_again}
+use Rattle.cs_laws.proofs.Tasks.{found_again}
 use Rattle.task_table.specs.Table.{Table, Rises, IsSound as IsTable}
 use Rattle.task_table.proofs.Tables.{changed_each}
 use Rattle.core_lanes.specs.declared.queue.SiblingQueue.{Ghosts}

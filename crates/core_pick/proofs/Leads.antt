@@ -13,7 +13,7 @@ use Rattle.cs_types.specs.Scenario.{IsPolicy}
 use Rattle.cs_types.specs.declared.task.Policy.{Policy}
 use Rattle.cs_types.specs.declared.task.Policy.TheVariants.{Stop}
 use Rattle.cs_types.specs.declared.task.Task.{Task}
-use Rattle.cs_types.proofs.First.{outranks_is_order}
+use Rattle.cs_laws.proofs.First.{outranks_is_order}
 use Rattle.cs_types.proofs.Foremost.{foremost_reduce}
 use Rattle.sibling_priority.specs.Offers.{IsFirst, class_of_first, rank_of_first, snapshot_of_first}
 use Rattle.sibling_priority.proofs.Firsts.{outranks-offer_of}

@@ -11,9 +11,9 @@ use Rattle.cs_types.specs.declared.task.Task.{Task}
 use Rattle.cs_types.specs.Queue.{queued_of}
 use Rattle.cs_types.specs.Room.{RoomState, has_pid, is_online}
 use Rattle.cs_types.specs.Selection.{is_run, pid_of, choice, occupation_of, task_after_selection}
-use Rattle.cs_types.proofs.Siblings.{map-map_alike}
-use Rattle.cs_types.proofs.Spots.{find-map}
-use Rattle.cs_types.proofs.Tasks.{found_again}
+use Rattle.cs_types.proofs.Lists.{map-map_alike}
+use Rattle.cs_laws.proofs.Spots.{find-map}
+use Rattle.cs_laws.proofs.Tasks.{found_again}
 use Rattle.task_table.specs.Table.{Table, IsSound as IsTable}
 use Rattle.core_lanes.specs.declared.queue.SiblingQueue.{Ghosts}
 use Rattle.core_lanes.specs.declared.lanes.Core.{Core}

@@ -15,7 +15,7 @@ use Rattle.cs_types.specs.Room.{has_pid, inserted}
 use Rattle.cs_types.specs.Step.{may_not_fork}
 use Rattle.cs_types.proofs.Filtered.{find-filter}
 use Rattle.cs_types.proofs.Inserted.{All-inserted, find-inserted, inserted-first, inserted-past}
-use Rattle.cs_types.proofs.Spots.{replaced_by}
+use Rattle.cs_laws.proofs.Spots.{replaced_by}
 use Rattle.task_table.specs.Table.{Table, total_among, Rises, RisesFrom, IsSound as IsTable}
 use Rattle.task_table.proofs.Rising.{weaker, above_all, find_again}
 use Rattle.fork_inherit.specs.Answers.{fork_answer}

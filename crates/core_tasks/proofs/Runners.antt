@@ -7,7 +7,7 @@ use Rattle.cs_types.specs.declared.task.Task.{Task}
 use Rattle.cs_types.specs.Room.{RoomState, SiblingState, absent, task_of, sibling_of}
 use Rattle.cs_types.specs.Selection.{is_run}
 use Rattle.cs_types.specs.Prctl.{Setting, is_set, runs_one, set_cookies}
-use Rattle.cs_types.proofs.Spots.{find-map}
+use Rattle.cs_laws.proofs.Spots.{find-map}
 use Rattle.task_table.specs.Table.{Table}
 use Rattle.core_lanes.specs.declared.queue.SiblingQueue.{Ghosts}
 use Rattle.core_lanes.specs.declared.lanes.Core.{Core}

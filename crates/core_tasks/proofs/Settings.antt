@@ -14,9 +14,9 @@ use Rattle.cs_types.specs.Room.{RoomState, SiblingState, Interval}
 use Rattle.cs_types.specs.Selection.{is_run}
 use Rattle.cs_types.specs.Prctl.{Setting, is_set, runs_one, set_cookies, with_used, asked_by_call, with_answer, makes_cookie, setting_of, prctl_answer}
 use Rattle.cs_types.specs.Touches.{cookie_touches, setting_touches}
-use Rattle.cs_types.proofs.Settings.{set_cookies-none, set_cookies-cons, setting_touches-cons}
-use Rattle.cs_types.proofs.Numbers.{touches_of_tasks-le}
-use Rattle.cs_types.proofs.Spots.{replaced_by}
+use Rattle.cs_laws.proofs.Settings.{set_cookies-none, set_cookies-cons, setting_touches-cons}
+use Rattle.cs_laws.proofs.Numbers.{touches_of_tasks-le}
+use Rattle.cs_laws.proofs.Spots.{replaced_by}
 use Rattle.task_table.specs.declared.group.Group.{Group}
 use Rattle.task_table.specs.declared.group.Group.TheVariants.{Threads, Process}
 use Rattle.task_table.specs.Group.{is_in_group, group_above}

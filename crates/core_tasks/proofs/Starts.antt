@@ -13,7 +13,7 @@ use Rattle.cs_types.specs.Queue.{queued_of}
 use Rattle.cs_types.specs.Scenario.{IsTask, AreDistinct}
 use Rattle.cs_types.specs.Room.{first_pid, asleep, inserted, asleep_tasks, has_pid}
 use Rattle.cs_types.proofs.Inserted.{each-inserted}
-use Rattle.cs_types.proofs.Tasks.{length-asleep_tasks, below_first_pid}
+use Rattle.cs_laws.proofs.Tasks.{length-asleep_tasks, below_first_pid}
 use Rattle.task_table.specs.Table.{Table, add_answer}
 use Rattle.task_table.specs.declared.fault.AddFault.{AddFault}
 use Rattle.core_lanes.specs.Lanes.{IsFit}

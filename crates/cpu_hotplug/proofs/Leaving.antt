@@ -17,7 +17,7 @@ use Rattle.core_lanes.specs.Queued.{queued_among, mover_of, AreTold, count_befor
 use Rattle.core_lanes.proofs.Queues.{is_on}
 use Rattle.core_lanes.proofs.Counted.{few_queued}
 use Rattle.cpu_hotplug.proofs.Ranks.{fewer_before, same_stamp, length-movers, mover_at, rank_at}
-use Rattle.cs_types.proofs.Spots.{find-map}
+use Rattle.cs_laws.proofs.Spots.{find-map}
 
 -- ---- how many move
 

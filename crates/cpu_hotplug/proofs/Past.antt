@@ -11,9 +11,9 @@ use Rattle.cs_types.specs.Order.{goes_before, first_of}
 use Rattle.cs_types.specs.Queueing.{moved_to}
 use Rattle.cs_types.specs.Hotplug.{lowest_other, moved_off, move_off}
 use Rattle.cs_types.proofs.Foremost.{foremost_none}
-use Rattle.cs_types.proofs.First.{goes_before_is_order}
+use Rattle.cs_laws.proofs.First.{goes_before_is_order}
 use Rattle.cs_types.proofs.Filtered.{each_found, Contains-filter_parts}
-use Rattle.cs_types.proofs.Spots.{find-map, replaced_by}
+use Rattle.cs_laws.proofs.Spots.{find-map, replaced_by}
 use Rattle.task_table.specs.Table.{Rises, RisesFrom}
 use Rattle.core_lanes.specs.Queued.{queued_among, IsOf, HasOwnStamp, AreStamped}
 use Rattle.core_lanes.proofs.Queues.{is_of, is_on}

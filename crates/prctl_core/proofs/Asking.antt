@@ -6,7 +6,7 @@ use Rattle.cs_types.specs.declared.task.Task.{Task}
 use Rattle.cs_types.specs.declared.task.TaskSpec.{TaskSpec}
 use Rattle.cs_types.specs.Guards.{GuardList, asked_each}
 use Rattle.cs_types.specs.Access.{may_access, asked_about}
-use Rattle.cs_types.proofs.Accesses.{asked_each-append}
+use Rattle.cs_laws.proofs.Accesses.{asked_each-append}
 use Rattle.prctl_core.specs.Plan.{asked_about_all}
 
 module _ (first now : GuardList) (caller : TaskSpec) (task : Task) (rest : List Task)

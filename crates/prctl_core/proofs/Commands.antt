@@ -11,7 +11,7 @@ use Rattle.cs_types.specs.declared.reply.Reply.TheVariants.{Refused}
 use Rattle.cs_types.specs.declared.task.TaskSpec.{TaskSpec}
 use Rattle.cs_types.specs.Guards.{GuardList, asked_each, asked_until}
 use Rattle.cs_types.specs.Access.{may_access, asked_about}
-use Rattle.cs_types.proofs.Accesses.{asked_each-append, may_access-asked_each, asked_about-asked_each}
+use Rattle.cs_laws.proofs.Accesses.{asked_each-append, may_access-asked_each, asked_about-asked_each}
 use Rattle.cs_types.specs.Room.{RoomState}
 use Rattle.cs_types.specs.Prctl.{is_thread, is_in_scope, live_cookies, may_access_members, setting_by, setting_of, prctl_answer, makes_cookie, with_used, asked_by_call, asked_about_members}
 use Rattle.task_table.specs.Table.{Table}

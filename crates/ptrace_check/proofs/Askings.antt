@@ -7,7 +7,7 @@ use Rattle.std.proofs.lemmas.List.{get_or-set_other, take_more}
 use Rattle.std.proofs.lemmas.List.Folds.{list_all_more, list_all_at}
 use Rattle.std.proofs.lemmas.List.Sums.{sum_by-cons, sum_by_more_le}
 use Rattle.std.proofs.lemmas.List.Elements.{recursion_from_All}
-use Rattle.cs_types.proofs.Times.{all_get}
+use Rattle.cs_types.proofs.Lists.{all_get}
 use Rattle.cs_types.specs.Guards.{GuardState, GuardList, no_guard, guard_of, is_active, refuses, asked_once, asked_each, asked_until}
 use Rattle.ptrace_check.specs.Inside.{turns_of, most_turns, AreKept}
 use Rattle.ptrace_check.proofs.Seats.{AreKept-with_guard}

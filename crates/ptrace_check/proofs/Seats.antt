@@ -12,8 +12,7 @@ use Rattle.cs_types.specs.declared.view.GuardView.{GuardView}
 use Rattle.cs_types.specs.View.{guard_view}
 use Rattle.cs_types.specs.declared.view.GuardPlace.TheVariants.{Bench, Active, Dropped}
 use Rattle.cs_types.specs.Guards.{GuardState, GuardList, no_guard, guard_of, with_guard, is_bench, is_active}
-use Rattle.cs_types.proofs.Selections.{get_or-set_alike}
-use Rattle.cs_types.proofs.Siblings.{map-set_alike}
+use Rattle.cs_types.proofs.Lists.{get_or-set_alike, map-set_alike}
 use Rattle.ptrace_check.specs.Guards.{Seated, cap_of}
 use Rattle.ptrace_check.specs.declared.answer.TeachAnswer.{TeachAnswer}
 use Rattle.ptrace_check.specs.declared.answer.TeachAnswer.TheVariants.{Taught, NoGuard, Full, OutOfMemory}

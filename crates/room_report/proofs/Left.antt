@@ -21,9 +21,9 @@ use Rattle.cs_types.specs.Touches.{own_number, is_fresh}
 use Rattle.cs_types.specs.History.{History, Moment, beginning, next, after, moment_of, fold_of}
 use Rattle.cs_types.specs.View.{cpu_view, task_after, task_view, end_view, guard_view}
 use Rattle.cs_types.proofs.Foremost.{find_passes}
-use Rattle.cs_types.proofs.Numbers.{draws-step}
+use Rattle.cs_laws.proofs.Numbers.{draws-step}
 use Rattle.cs_types.proofs.Inserted.{is_above}
-use Rattle.cs_types.proofs.Rising.{Rises, rising-fold_of, above_zero, above_next, above_none}
+use Rattle.cs_laws.proofs.Rising.{Rises, rising-fold_of, above_zero, above_next, above_none}
 use Rattle.scenario_text.specs.Words.{Word}
 use Rattle.scenario_text.specs.Text.{line, entry_text}
 use Rattle.scenario_text.specs.Entry.{FitsReply}

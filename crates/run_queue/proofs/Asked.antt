@@ -10,7 +10,7 @@ use Rattle.std.specs.FinMap.{entries}
 use Rattle.std.proofs.lemmas.Bool.{ne_eqb, eqb-true, and_parts}
 use Rattle.std.proofs.lemmas.List.Elements.{recursion_from_All}
 use Rattle.std.proofs.ByRecursion.{all_kept_by, kept_by_passes}
-use Rattle.cs_types.proofs.Selections.{each_both}
+use Rattle.cs_types.proofs.Lists.{each_both}
 use Rattle.cs_types.specs.declared.task.Task.{Task}
 use Rattle.cs_types.specs.declared.queue.Queued.{Queued}
 use Rattle.cs_types.specs.Order.{priority_of, goes_before, first_of, foremost}

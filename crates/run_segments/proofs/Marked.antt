@@ -7,7 +7,7 @@ use Rattle.cs_types.specs.declared.task.Task.{Task}
 use Rattle.cs_types.specs.declared.view.TaskView.{TaskView}
 use Rattle.cs_types.specs.Room.{RoomState}
 use Rattle.cs_types.specs.View.{task_view, task_after}
-use Rattle.cs_types.proofs.Rising.{AreRising, above_none}
+use Rattle.cs_laws.proofs.Rising.{AreRising, above_none}
 use Rattle.run_times.specs.Doing.{has_queued}
 use Rattle.run_times.proofs.Shown.{shown_after, queued_above, queued_start, queued_with, is_on}
 

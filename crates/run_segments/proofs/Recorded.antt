@@ -13,7 +13,7 @@ use Rattle.cs_types.specs.Room.{Opening, RoomState}
 use Rattle.cs_types.specs.Time.{is_running, grown_by, grown, advanced}
 use Rattle.cs_types.specs.History.{History, Moment, step_at, moment_of, fold_of}
 use Rattle.cs_types.specs.Drain.{IsDrained}
-use Rattle.cs_types.proofs.Histories.{moment_of-push}
+use Rattle.cs_laws.proofs.Histories.{moment_of-push}
 use Rattle.run_times.specs.Doing.{has_queued}
 use Rattle.run_times.specs.Times.{Span, advance_of, spans_of, total_time}
 use Rattle.run_times.proofs.Clock.{total_time-clock}

@@ -7,7 +7,7 @@ use Rattle.cs_types.specs.declared.reply.Entry.{Entry}
 use Rattle.cs_types.specs.Room.{Opening, RoomState}
 use Rattle.cs_types.specs.Touches.{is_fresh}
 use Rattle.cs_types.specs.History.{History, Moment, beginning, next, after, fold_of}
-use Rattle.cs_types.proofs.Times.{lapse, clock-step_by}
+use Rattle.cs_laws.proofs.Times.{lapse, clock-step_by}
 use Rattle.run_times.specs.Times.{Span, span_of, spans_from, spans_of, total_time}
 
 -- the span of an event takes as long as the clock goes on at it

@@ -14,8 +14,8 @@ use Rattle.cs_types.specs.History.{History, Moment, next, moment_of, fold_of, Ar
 use Rattle.cs_types.specs.Drain.{IsEndFrom, IsDrained}
 use Rattle.cs_types.specs.Laws.{IsSettled}
 use Rattle.cs_types.proofs.Filtered.{Contains-filter, Contains-range}
-use Rattle.cs_types.proofs.Histories.{moment_of-push}
-use Rattle.cs_types.proofs.Trust.{settled-moment_of}
+use Rattle.cs_laws.proofs.Histories.{moment_of-push}
+use Rattle.cs_laws.proofs.Trust.{settled-moment_of}
 use Rattle.run_times.specs.declared.siblings.SiblingTimes.{SiblingTimes}
 use Rattle.run_times.specs.Doing.{cookie_run, is_pending, some_pending, is_exposed}
 use Rattle.run_times.specs.Times.{Span, advance_of, span_of, spans_from, spans_of, total_time}

@@ -14,7 +14,7 @@ use Rattle.cs_types.specs.History.{History, Moment, fold_of}
 use Rattle.cs_types.specs.View.{cpu_view, task_after, task_view}
 use Rattle.cs_types.proofs.Foremost.{find_passes}
 use Rattle.cs_types.proofs.Inserted.{is_above}
-use Rattle.cs_types.proofs.Rising.{Rises, AreRising, rising-fold_of, above_zero, above_next, above_none}
+use Rattle.cs_laws.proofs.Rising.{Rises, AreRising, rising-fold_of, above_zero, above_next, above_none}
 use Rattle.run_times.specs.Doing.{cookie_run, has_queued}
 
 -- the tasks of a machine's history stand by rising pid

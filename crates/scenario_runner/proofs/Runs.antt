@@ -13,13 +13,13 @@ use Rattle.cs_types.specs.Room.{Opening, RoomState}
 use Rattle.cs_types.specs.Scenario.{IsEvent, IsMadeBy, IsStep, IsPlayable, is_actor}
 use Rattle.cs_types.specs.History.{History, AreEvents, IsLegal, moment_of, fold_of, history_of, events_by, file}
 use Rattle.cs_types.specs.Drain.{IsDrained}
-use Rattle.cs_types.proofs.Accounts.{accounted-fold_of}
-use Rattle.cs_types.proofs.Shares.{shared-fold_of}
+use Rattle.cs_laws.proofs.Accounts.{accounted-fold_of}
+use Rattle.cs_laws.proofs.Shares.{shared-fold_of}
 use Rattle.cs_types.proofs.Foremost.{each_weaker}
-use Rattle.cs_types.proofs.Histories.{IsLegal-history_of, events_by-file}
-use Rattle.cs_types.proofs.Selections.{selects}
-use Rattle.cs_types.proofs.Drains.{drained_alone, nobody_pending, IsLegal-drained, AreEvents-drained, IsByEnd, drained_by_end, events_by-drained}
-use Rattle.cs_types.proofs.Trust.{settled-moment_of, one_cookie}
+use Rattle.cs_laws.proofs.Histories.{IsLegal-history_of, events_by-file}
+use Rattle.cs_laws.proofs.Selections.{selects}
+use Rattle.cs_laws.proofs.Drains.{drained_alone, nobody_pending, IsLegal-drained, AreEvents-drained, IsByEnd, drained_by_end, events_by-drained}
+use Rattle.cs_laws.proofs.Trust.{settled-moment_of, one_cookie}
 use Rattle.cs_types.specs.Shuffles.{IsShuffle}
 use Rattle.sibling_workers.specs.Race.{IsRaced}
 use Rattle.sibling_workers.proofs.Own.{is_actor-same, same_actor}

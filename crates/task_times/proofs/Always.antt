@@ -31,8 +31,8 @@ use Rattle.cs_types.specs.History.{History, Moment, beginning, next, after, fold
 use Rattle.cs_types.proofs.Filtered.{each-filter}
 use Rattle.cs_types.proofs.Foremost.{each_weaker, find_none}
 use Rattle.cs_types.proofs.Inserted.{each-inserted}
-use Rattle.cs_types.proofs.Rising.{pid-grown_by}
-use Rattle.cs_types.proofs.Tasks.{below_first_pid}
+use Rattle.cs_laws.proofs.Rising.{pid-grown_by}
+use Rattle.cs_laws.proofs.Tasks.{below_first_pid}
 use Rattle.run_times.specs.Times.{Span, advance_of, span_of, spans_from, spans_of, total_time, time_in}
 use Rattle.run_times.proofs.Clock.{total_time-clock}
 use Rattle.task_times.specs.declared.times.TaskTimes.{TaskTimes}

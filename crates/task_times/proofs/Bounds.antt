@@ -28,9 +28,9 @@ use Rattle.cs_types.specs.Touches.{is_fresh}
 use Rattle.cs_types.specs.History.{History, Moment, beginning, next, after, fold_of}
 use Rattle.cs_types.proofs.Filtered.{each-filter, each_found}
 use Rattle.cs_types.proofs.Foremost.{each_weaker}
-use Rattle.cs_types.proofs.Homes.{running_is_found, stolen_is}
+use Rattle.cs_laws.proofs.Homes.{running_is_found, stolen_is}
 use Rattle.cs_types.proofs.Inserted.{each-inserted}
-use Rattle.cs_types.proofs.Rising.{Rises, AreRising, rising-step}
+use Rattle.cs_laws.proofs.Rising.{Rises, AreRising, rising-step}
 use Rattle.run_times.proofs.Shown.{rises_of}
 
 -- each of these tasks has a cookie below the number

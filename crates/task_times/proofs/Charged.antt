@@ -15,8 +15,8 @@ use Rattle.cs_types.specs.Room.{Opening, RoomState, has_pid, task_of}
 use Rattle.cs_types.specs.History.{History, fold_of}
 use Rattle.cs_types.specs.View.{forced_of, end_view}
 use Rattle.cs_types.proofs.Foremost.{each_weaker}
-use Rattle.cs_types.proofs.Numbers.{ended-fold_of, next_cookie-fold_of}
-use Rattle.cs_types.proofs.Rising.{AreRising, above_zero}
+use Rattle.cs_laws.proofs.Numbers.{ended-fold_of, next_cookie-fold_of}
+use Rattle.cs_laws.proofs.Rising.{AreRising, above_zero}
 use Rattle.run_times.specs.Times.{Span, spans_of}
 use Rattle.run_times.proofs.Shown.{rises_of}
 use Rattle.task_times.specs.declared.times.TaskTimes.{TaskTimes}

@@ -15,11 +15,11 @@ use Rattle.cs_types.specs.Step.{Stepped, step, exit, without, has_threads, run_i
 use Rattle.cs_types.specs.Accounting.{charge}
 use Rattle.cs_types.specs.Touches.{is_fresh}
 use Rattle.cs_types.specs.History.{History, Moment, beginning, next, moment_of, fold_of}
-use Rattle.cs_types.proofs.Drains.{after-append}
+use Rattle.cs_laws.proofs.Drains.{after-append}
 use Rattle.cs_types.proofs.Filtered.{each_found}
 use Rattle.cs_types.proofs.Foremost.{find-append_none}
-use Rattle.cs_types.proofs.Homes.{running_is_found}
-use Rattle.cs_types.proofs.Rising.{AreRising}
+use Rattle.cs_laws.proofs.Homes.{running_is_found}
+use Rattle.cs_laws.proofs.Rising.{AreRising}
 use Rattle.run_times.proofs.Shown.{rises_of}
 use Rattle.task_times.specs.declared.times.TaskTimes.{TaskTimes}
 use Rattle.task_times.specs.Living.{leaver, ended_by, leavers_from, leavers_of, left_with, cookie_at}

@@ -16,9 +16,9 @@ use Rattle.cs_types.specs.History.{History, Moment, beginning, next, after, mome
 use Rattle.cs_types.specs.Drain.{IsEndFrom, IsDrained}
 use Rattle.cs_types.specs.View.{cpu_view}
 use Rattle.cs_types.proofs.Filtered.{each_found}
-use Rattle.cs_types.proofs.Histories.{moment_of-push}
-use Rattle.cs_types.proofs.Homes.{running_is_found}
-use Rattle.cs_types.proofs.Numbers.{next_cookie-fold_of}
+use Rattle.cs_laws.proofs.Histories.{moment_of-push}
+use Rattle.cs_laws.proofs.Homes.{running_is_found}
+use Rattle.cs_laws.proofs.Numbers.{next_cookie-fold_of}
 use Rattle.run_times.specs.Doing.{cookie_run}
 use Rattle.run_times.proofs.Shown.{shown_cpu}
 use Rattle.task_times.specs.Living.{leaver, leavers_from, leavers_of, left_with, cookie_at}

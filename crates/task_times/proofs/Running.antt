@@ -16,8 +16,8 @@ use Rattle.cs_types.specs.History.{Moment}
 use Rattle.cs_types.specs.Laws.{pids_on}
 use Rattle.cs_types.specs.View.{cpu_view, task_view}
 use Rattle.cs_types.proofs.Foremost.{each_weaker}
-use Rattle.cs_types.proofs.Homes.{IsQueuedOn, each_queued}
-use Rattle.cs_types.proofs.Rising.{AreRising}
+use Rattle.cs_laws.proofs.Homes.{IsQueuedOn, each_queued}
+use Rattle.cs_laws.proofs.Rising.{AreRising}
 use Rattle.run_times.proofs.Shown.{shown_at, shown_cpu, shown_zero}
 
 run_is : (run : Option ℕ) (pid : ℕ) → is_run run (Some pid) ≡ true → run ≡ Some pid

@@ -19,8 +19,8 @@ use Rattle.cs_types.specs.Room.{Opening, RoomState, has_pid, task_of}
 use Rattle.cs_types.specs.Touches.{is_fresh}
 use Rattle.cs_types.specs.History.{History, Moment, beginning, next, fold_of, AreEvents}
 use Rattle.cs_types.specs.Drain.{IsDrained}
-use Rattle.cs_types.proofs.Numbers.{next_pid-fold_of, next_cookie-fold_of}
-use Rattle.cs_types.proofs.Tasks.{few-step, few-fold_of, length-asleep_tasks}
+use Rattle.cs_laws.proofs.Numbers.{next_pid-fold_of, next_cookie-fold_of}
+use Rattle.cs_laws.proofs.Tasks.{few-step, few-fold_of, length-asleep_tasks}
 use Rattle.run_times.specs.Times.{Span, advance_of, span_of, spans_from, spans_of, time_in}
 use Rattle.run_times.proofs.Shown.{rises_of}
 use Rattle.run_times.proofs.Laws.{spans_of-drained}

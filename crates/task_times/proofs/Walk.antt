@@ -9,8 +9,8 @@ use Rattle.cs_types.specs.Room.{RoomState, task_of}
 use Rattle.cs_types.specs.View.{task_view, task_after}
 use Rattle.cs_types.proofs.Filtered.{each_found}
 use Rattle.cs_types.proofs.Inserted.{is_above}
-use Rattle.cs_types.proofs.Rising.{AreRising, above_zero, above_next, above_none}
-use Rattle.cs_types.proofs.Spots.{each_is_found}
+use Rattle.cs_laws.proofs.Rising.{AreRising, above_zero, above_next, above_none}
+use Rattle.cs_laws.proofs.Spots.{each_is_found}
 use Rattle.run_times.proofs.Shown.{shown_at}
 use Rattle.task_times.specs.declared.doing.TaskDoing.{TaskDoing}
 use Rattle.task_times.specs.declared.times.TaskTimes.{TaskTimes}

@@ -17,7 +17,7 @@ use Rattle.cs_types.specs.Queue.{Seat, Seats, seat_cmp, seat_of, queued_of, top_
 use Rattle.cs_types.specs.Room.{has_pid}
 use Rattle.cs_types.proofs.Queues.{seat_total, seat_cmp-IsAntisymmetric, precedes, top_of-from_entries, foremost-cons, foremost-map, foremost_alike, goes_before-seats}
 use Rattle.task_table.specs.Table.{Rises}
-use Rattle.cs_types.proofs.Spots.{find-replaced}
+use Rattle.cs_laws.proofs.Spots.{find-replaced}
 use Rattle.core_lanes.specs.Queued.{queued_among, queued_at, others, given_vtime, IsOf}
 use Rattle.core_lanes.proofs.Queues.{is_on}
 use Rattle.core_lanes.proofs.Replaced.{is_of as is_of_after, rises-replaced}

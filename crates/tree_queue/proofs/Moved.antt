@@ -39,8 +39,7 @@ use Rattle.tree_queue.proofs.Made.{free_at}
 use Rattle.tree_queue.proofs.Held.{seat_stamp, spot_stamp}
 use Rattle.tree_queue.proofs.Splits.{each_is_of}
 use Rattle.std.proofs.ByRecursion.{All-weaker, all_kept_by}
-use Rattle.cs_types.proofs.Times.{all_map}
-use Rattle.cs_types.proofs.Selections.{each_both}
+use Rattle.cs_types.proofs.Lists.{all_map, each_both}
 
 -- ---- comparisons that stay
 

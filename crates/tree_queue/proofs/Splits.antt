@@ -7,8 +7,7 @@ use Rattle.std.proofs.lemmas.List.Elements.{filter-append, recursion_from_All, A
 use Rattle.std.proofs.lemmas.List.{length-map}
 use Rattle.std.proofs.lemmas.List.Sums.{length-filter, count_by-le-length}
 use Rattle.std.proofs.ByRecursion.{all_kept_by, kept_by_passes}
-use Rattle.cs_types.proofs.Times.{all_map}
-use Rattle.cs_types.proofs.Selections.{each_both}
+use Rattle.cs_types.proofs.Lists.{all_map, each_both}
 use Rattle.core_lanes.proofs.Lists.{filter-map, filter-filter}
 use Rattle.cs_types.specs.declared.task.Task.{Task}
 use Rattle.cs_types.specs.declared.queue.Queued.{Queued}

@@ -13,7 +13,7 @@ use Rattle.cs_types.specs.declared.task.Policy.TheVariants.{Stop, Deadline, Fifo
 use Rattle.cs_types.specs.declared.queue.Queued.{Queued}
 use Rattle.cs_types.specs.Queue.{rank_by, queued_of}
 use Rattle.cs_types.specs.Order.{fair_class, class_of, is_fair, foremost, goes_before, first_of}
-use Rattle.cs_types.proofs.First.{goes_before_is_order}
+use Rattle.cs_laws.proofs.First.{goes_before_is_order}
 use Rattle.cs_types.proofs.Filtered.{foremost-filter}
 use Rattle.cs_types.proofs.Queues.{foremost-cons}
 use Rattle.core_lanes.specs.Queued.{smallest_vtime}

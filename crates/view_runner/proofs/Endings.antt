@@ -6,7 +6,7 @@ use Rattle.cs_types.specs.declared.scenario.Scenario.{Scenario}
 use Rattle.cs_types.specs.Room.{Opening}
 use Rattle.cs_types.specs.History.{History, file, history_of}
 use Rattle.cs_types.specs.Drain.{IsDrained}
-use Rattle.cs_types.proofs.Drains.{drained_alone}
+use Rattle.cs_laws.proofs.Drains.{drained_alone}
 use Rattle.run_segments.specs.declared.segments.Segment.{Segment}
 use Rattle.scenario_input.specs.declared.stop.Stop.{Stop}
 use Rattle.scenario_input.specs.declared.stop.Stop.TheVariants.{TooLong}

@@ -5,7 +5,7 @@ use Rattle.cs_types.specs.Scenario.{IsPolicy}
 use Rattle.cs_types.specs.Room.{SiblingState}
 use Rattle.cs_types.specs.Order.{goes_before, first_of}
 use Rattle.cs_types.specs.Steal.{may_steal}
-use Rattle.cs_types.proofs.First.{goes_before_is_order}
+use Rattle.cs_laws.proofs.First.{goes_before_is_order}
 use Rattle.task_table.specs.Table.{Table}
 use Rattle.core_lanes.specs.declared.queue.SiblingQueue.{Ghosts}
 use Rattle.core_lanes.specs.declared.lane.Lane.{Lane}

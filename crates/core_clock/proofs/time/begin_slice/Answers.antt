@@ -2,7 +2,7 @@ use Rattle.std.proofs.Common.{◌+◌, ◌≤◌, ◌≡◌, ◌∙◌, Some, sy
 use Rattle.std.proofs.lemmas.Bool.{and_parts}
 use Rattle.cs_types.specs.declared.task.Task.{Task}
 use Rattle.cs_types.specs.Time.{has_used_slice, rotates, begin_slice}
-use Rattle.cs_types.proofs.Tasks.{found_again}
+use Rattle.cs_laws.proofs.Tasks.{found_again}
 use Rattle.core_lanes.specs.Lanes.{Beside, room_of}
 use Rattle.core_lanes.specs.Changes.{Changes}
 use Rattle.core_lanes.proofs.Stays.{both_stay, same_stays, stamp_next, stamped_later}

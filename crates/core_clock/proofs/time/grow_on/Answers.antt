@@ -9,7 +9,7 @@ use Rattle.cs_types.specs.Order.{class_of, fair_class}
 use Rattle.cs_types.specs.Room.{RoomState, with_task}
 use Rattle.cs_types.specs.Scenario.{IsNice, IsPolicy}
 use Rattle.cs_types.specs.Time.{growth, grown_by}
-use Rattle.cs_types.proofs.Times.{growth-le}
+use Rattle.cs_types.proofs.Growth.{growth-le}
 use Rattle.core_lanes.specs.Lanes.{room_of, IsFit, AreHeld}
 use Rattle.task_table.specs.Table.{Table}
 use Rattle.core_lanes.proofs.Stays.{found_in, same_stays}

@@ -3,7 +3,7 @@ use Rattle.std.specs.Prelude.{List, All}
 use Rattle.std.proofs.lemmas.List.{length-map}
 use Rattle.cs_types.specs.declared.task.Task.{Task}
 use Rattle.cs_types.specs.Room.{RoomState, SiblingState, absent, running_on}
-use Rattle.cs_types.proofs.Homes.{running_is_found}
+use Rattle.cs_laws.proofs.Homes.{running_is_found}
 use Rattle.core_lanes.specs.declared.queue.SiblingQueue.{Ghosts}
 use Rattle.core_lanes.specs.Lanes.{Beside, lane_state, room_of, RunTheirOwn}
 use Rattle.core_lanes.specs.declared.lanes.Core.{Core}

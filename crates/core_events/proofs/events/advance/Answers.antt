@@ -4,7 +4,7 @@ use Rattle.cs_types.specs.declared.event.Event.TheVariants.{Advance}
 use Rattle.cs_types.specs.declared.reply.Reply.TheVariants.{Now}
 use Rattle.cs_types.specs.declared.task.Task.{Task}
 use Rattle.cs_types.specs.Room.{SiblingState}
-use Rattle.cs_types.proofs.Timely.{IsTimelyTask, IsTimelySibling}
+use Rattle.cs_laws.proofs.Timely.{IsTimelyTask, IsTimelySibling}
 use Rattle.core_lanes.specs.Lanes.{lane_state, room_of, at}
 use Rattle.core_lanes.specs.Numbers.{with_ended}
 use Rattle.core_tasks.specs.State.{beside_of, room_with, state_numbers}

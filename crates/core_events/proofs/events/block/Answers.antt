@@ -8,7 +8,7 @@ use Rattle.cs_types.specs.Selection.{Scheduled}
 use Rattle.cs_types.specs.Accounting.{charge}
 use Rattle.cs_types.specs.Queueing.{dequeue}
 use Rattle.cs_types.specs.Step.{Stepped, run_idle, block}
-use Rattle.cs_types.proofs.Accounts.{now-charge}
+use Rattle.cs_laws.proofs.Accounts.{now-charge}
 use Rattle.core_lanes.specs.Lanes.{BareCore, AreLow, beside_after, room_of, bare}
 use Rattle.core_lanes.specs.Numbers.{Numbers, booked, took, touched, with_ended}
 use Rattle.core_lanes.proofs.Stays.{both_stay, found_in, some_beside}

@@ -6,7 +6,7 @@ use Rattle.cs_types.specs.Room.{RoomState, has_pid, running_on}
 use Rattle.cs_types.specs.Selection.{Scheduled, schedule}
 use Rattle.cs_types.specs.Accounting.{charge}
 use Rattle.cs_types.specs.Step.{Stepped, run_idle, exit, without, has_threads, picked}
-use Rattle.cs_types.proofs.Accounts.{now-charge}
+use Rattle.cs_laws.proofs.Accounts.{now-charge}
 use Rattle.core_lanes.specs.Lanes.{BareCore, AreLow, room_of, bare}
 use Rattle.core_lanes.specs.Numbers.{Numbers, booked, took, touched, with_ended}
 use Rattle.std.proofs.lemmas.Bool.{cond-true, cond-false}

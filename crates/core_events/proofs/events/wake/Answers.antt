@@ -6,7 +6,7 @@ use Rattle.cs_types.specs.declared.reply.Reply.TheVariants.{Woken, NoTask, Awake
 use Rattle.cs_types.specs.Room.{RoomState, is_online, lowest_online}
 use Rattle.cs_types.specs.Queueing.{moved_to, rehomed, queue_at_home}
 use Rattle.cs_types.specs.Step.{Stepped, wake}
-use Rattle.cs_types.proofs.Tasks.{found_again}
+use Rattle.cs_laws.proofs.Tasks.{found_again}
 use Rattle.core_lanes.specs.Lanes.{room_of}
 use Rattle.core_lanes.proofs.Stays.{found_in, some_beside}
 use Rattle.core_tasks.specs.State.{beside_of, both, room_with, state_numbers}

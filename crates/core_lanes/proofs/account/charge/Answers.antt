@@ -5,7 +5,7 @@ use Rattle.std.specs.Option.{option_map, option_to_list}
 use Rattle.std.proofs.lemmas.List.{length-append}
 use Rattle.cs_types.specs.Room.{RoomState, Interval}
 use Rattle.cs_types.specs.Accounting.{share, total_of, charged, open_interval, charge}
-use Rattle.cs_types.proofs.Accounts.{owed, total_of-more, open_share-le, charge-again}
+use Rattle.cs_laws.proofs.Accounts.{owed, total_of-more, open_share-le, charge-again}
 use Rattle.task_table.specs.Table.{Table, total_among, total_in}
 use Rattle.core_lanes.specs.Lanes.{Beside, at, room_of, bare}
 use Rattle.core_lanes.specs.Numbers.{Numbers, numbers_in, numbers_by, booked, with_ended}

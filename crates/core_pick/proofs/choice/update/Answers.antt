@@ -6,7 +6,7 @@ use Rattle.std.proofs.lemmas.List.{append-nil, map-set, length-map, get_or-map}
 use Rattle.std.proofs.Math.Seq.{take-length, drop-length, map-set_same}
 use Rattle.cs_types.specs.Room.{RoomState, SiblingState, idle, absent}
 use Rattle.cs_types.specs.Selection.{choice, pid_of, is_run, sibling_after_selection, select_for}
-use Rattle.cs_types.proofs.Selections.{numbered_after_selection}
+use Rattle.cs_laws.proofs.Selections.{numbered_after_selection}
 use Rattle.cs_types.specs.declared.task.Task.{Task}
 use Rattle.task_table.specs.Table.{Table, IsSound as IsTable}
 use Rattle.core_lanes.specs.Lanes.{lane_state}

@@ -1,7 +1,7 @@
 use Rattle.std.proofs.Common.{◌≡◌, ℕ, ◌++◌, map, take, drop}
 use Rattle.std.specs.List.{enumerate_from}
 use Rattle.cs_types.specs.Room.{RoomState}
-use Rattle.cs_types.proofs.Selections.{numbered_after_selection}
+use Rattle.cs_laws.proofs.Selections.{numbered_after_selection}
 use Rattle.task_table.specs.Table.{IsSound as IsTable}
 use Rattle.core_lanes.specs.Lanes.{lane_state}
 use Rattle.core_pick.specs.Choice.{IsPlan, kept_in_selection}

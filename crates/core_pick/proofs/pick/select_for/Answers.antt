@@ -2,7 +2,7 @@ use Rattle.std.proofs.Common.{◌≡◌, ◌∙◌, ◌<◌, ◌≤◌, ap, sym,
 use Rattle.std.specs.Prelude.{Some, None, ◌||◌, ◌==◌, List}
 use Rattle.std.proofs.lemmas.List.{length-map}
 use Rattle.cs_types.specs.Selection.{choice, select_for, forced_count, occupation_of, cookie_of, lead_from, task_after_selection}
-use Rattle.cs_types.proofs.Selections.{occupied}
+use Rattle.cs_laws.proofs.Selections.{occupied}
 use Rattle.core_lanes.specs.Lanes.{Beside, at, lane_state, room_of, bare}
 use Rattle.core_lanes.specs.Numbers.{numbers_by}
 use Rattle.core_lanes.proofs.Lists.{items-as_many}

@@ -3,7 +3,7 @@ use Rattle.std.specs.Prelude.{fold}
 use Rattle.std.proofs.lemmas.Iterator.{YieldsList-from_slice}
 use Rattle.std.proofs.lemmas.Iterator.Consumers.{fold_from_yields_List}
 use Rattle.cs_types.specs.declared.task.TaskSpec.{TaskSpec}
-use Rattle.cs_types.proofs.Tasks.{first_pid-le}
+use Rattle.cs_laws.proofs.Tasks.{first_pid-le}
 use Rattle.core_tasks.proofs.start.first_pid.Goals as goal
 
 pub overflow_add-result : goal.overflow_add-result

@@ -13,7 +13,7 @@ use Rattle.core_lanes.proofs.Stays.{same_stays}
 use Rattle.cpu_hotplug.specs.Hotplugs.{reply_of, leave_touches, TakesOffline}
 use Rattle.cpu_hotplug.specs.declared.hotplug.Hotplug.{Hotplug}
 use Rattle.cpu_hotplug.specs.declared.hotplug.Hotplug.TheVariants.{Done, Busy, Already}
-use Rattle.cs_types.proofs.Places.{lowest_other_is}
+use Rattle.cs_laws.proofs.Places.{lowest_other_is}
 use Rattle.cpu_hotplug.proofs.Steps.{offline_step}
 use Rattle.cpu_hotplug.proofs.hotplug.offline.Goals as goal
 

@@ -5,7 +5,7 @@ use Rattle.std.proofs.lemmas.List.Folds.{list_any_at}
 use Rattle.std.proofs.lemmas.List.Quantifiers.{all_pairs_push}
 use Rattle.arrayvec.specs.ArrayVec.{array_vec_len}
 use Rattle.cs_types.specs.History.{fold_of}
-use Rattle.cs_types.proofs.Siblings.{length-fold_of}
+use Rattle.cs_laws.proofs.Siblings.{length-fold_of}
 use Rattle.exposed_pairs.specs.Added.{has}
 use Rattle.exposed_pairs.proofs.Ran.{ran_by, ran_none, ran_again, ran_new}
 use Rattle.exposed_pairs.proofs.cookies.cookies_run.Goals as goal

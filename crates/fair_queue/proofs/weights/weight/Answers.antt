@@ -1,7 +1,7 @@
 use Rattle.std.proofs.Common.{rules, ◌≡◌, ◌∙◌, ◌≤◌, ap, get_or, sym, subst}
 use Rattle.std.proofs.lemmas.List.{get_or_default}
 use Rattle.cs_types.specs.Time.{weights, weight_index, weight_of}
-use Rattle.cs_types.proofs.Times.{weight_of-ge}
+use Rattle.cs_types.proofs.Growth.{weight_of-ge}
 use Rattle.fair_queue.proofs.weights.weight.Goals as goal
 
 pub returns-clause-weight : goal.returns-clause-weight

@@ -3,7 +3,7 @@ use Rattle.std.specs.Prelude.{find, Option, All, ◌+◌, ◌*◌, ◌^◌, ◌<
 use Rattle.std.proofs.Common.{arith, subst}
 use Rattle.std.proofs.lemmas.List.Elements.{All-weaker}
 use Rattle.cs_types.specs.declared.task.TaskSpec.{TaskSpec}
-use Rattle.cs_types.proofs.Askings.{asked-access}
+use Rattle.cs_laws.proofs.Askings.{asked-access}
 use Rattle.std.specs.Option.{option_and_then}
 use mir.Syntax.{w32}
 use mir.Val.{SFits}
@@ -12,11 +12,11 @@ use Rattle.std.proofs.lemmas.Bool.{lt-ltb, le-ltb}
 use Rattle.cs_types.specs.declared.task.Task.{Task}
 use Rattle.cs_types.specs.Guards.{GuardState, GuardList, asked_each}
 use Rattle.cs_types.specs.Access.{may_access, asked_about}
-use Rattle.cs_types.proofs.Accesses.{asked_each-append}
+use Rattle.cs_laws.proofs.Accesses.{asked_each-append}
 use Rattle.cs_types.specs.declared.event.Ask.{Ask}
 use Rattle.cs_types.specs.Room.{RoomState, has_pid, task_of}
 use Rattle.cs_types.specs.Prctl.{named_by, target_of}
-use Rattle.cs_types.proofs.Tasks.{found_again}
+use Rattle.cs_laws.proofs.Tasks.{found_again}
 use Rattle.prctl_core.proofs.Rows.{as_asked, no_caller, few_online, invalid, no_target, no_access}
 use Rattle.prctl_core.proofs.admitted.admit.Goals as goal
 

@@ -2,7 +2,7 @@ use Rattle.std.proofs.Common.{Bor, ◌≡◌, Some, None, sym}
 use Rattle.std.specs.Prelude.{find, Option, IfSome, option_copied}
 use Rattle.cs_types.specs.declared.task.Task.{Task}
 use Rattle.cs_types.specs.Room.{has_pid}
-use Rattle.cs_types.proofs.Tasks.{found_again}
+use Rattle.cs_laws.proofs.Tasks.{found_again}
 use Rattle.prctl_core.proofs.admitted.named_by.Goals as goal
 
 pub returns-in-Ok-clause-there : goal.returns-in-Ok-clause-there

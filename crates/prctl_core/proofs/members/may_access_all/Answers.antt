@@ -5,8 +5,8 @@ use Rattle.std.proofs.lemmas.List.Sums.{length-filter, count_by-le-length}
 use Rattle.cs_types.specs.declared.task.Task.{Task}
 use Rattle.cs_types.specs.Guards.{GuardState, GuardList, asked_each}
 use Rattle.cs_types.specs.Access.{may_access, asked_about}
-use Rattle.cs_types.proofs.Accesses.{may_access-asked_each, asked_about-asked_each}
-use Rattle.cs_types.proofs.Askings.{asked-access}
+use Rattle.cs_laws.proofs.Accesses.{may_access-asked_each, asked_about-asked_each}
+use Rattle.cs_laws.proofs.Askings.{asked-access}
 use Rattle.std.specs.List.{list_all}
 use Rattle.task_table.specs.Group.{is_in_group}
 use Rattle.prctl_core.specs.Plan.{asked_about_all}

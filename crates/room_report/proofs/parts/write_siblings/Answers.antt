@@ -1,7 +1,7 @@
 use Rattle.std.proofs.Common.{◌∙◌, sym, subst, arith}
 use Rattle.std.specs.Option.{IsSome}
 use Rattle.cs_types.specs.History.{moment_of}
-use Rattle.cs_types.proofs.Siblings.{length-fold_of}
+use Rattle.cs_laws.proofs.Siblings.{length-fold_of}
 use Rattle.cs_outside.proofs.Reached.{reached_more, reached_prefix, reached_end, whole_prefix}
 use Rattle.room_report.proofs.Left.{cpu_next, cpu_end, has_cpu}
 use Rattle.room_report.proofs.parts.write_siblings.Goals as goal

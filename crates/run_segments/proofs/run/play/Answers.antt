@@ -1,7 +1,7 @@
 use Rattle.std.proofs.Common.{sym, ◌∙◌, subst, arith}
 use Rattle.cs_types.specs.Scenario.{IsPlayable}
 use Rattle.cs_types.specs.Room.{Opening}
-use Rattle.cs_types.proofs.Histories.{history_more}
+use Rattle.cs_laws.proofs.Histories.{history_more}
 use Rattle.run_segments.proofs.Recorded.{kept_alike}
 use Rattle.run_segments.proofs.run.play.Goals as goal
 

@@ -1,7 +1,7 @@
 use Rattle.std.proofs.Common.{◌≡◌, length, sym, ap, ◌∙◌, subst, arith}
 use Rattle.cs_types.specs.Scenario.{IsPlayable}
 use Rattle.cs_types.specs.Room.{Opening}
-use Rattle.cs_types.proofs.Histories.{history_more}
+use Rattle.cs_laws.proofs.Histories.{history_more}
 use Rattle.run_summary.proofs.Plays.{events_more, length_so_far, event_in, parts_more, rows_fit, rows_go}
 use Rattle.run_summary.proofs.run.play.Goals as goal
 

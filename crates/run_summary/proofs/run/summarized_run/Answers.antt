@@ -5,7 +5,7 @@ use Rattle.cs_types.specs.Scenario.{IsPlayable}
 use Rattle.cs_types.specs.Room.{Opening}
 use Rattle.cs_types.specs.History.{History}
 use Rattle.cs_types.specs.Laws.{is_refused}
-use Rattle.cs_types.proofs.Histories.{length-history_of}
+use Rattle.cs_laws.proofs.Histories.{length-history_of}
 use Rattle.run_times.specs.declared.siblings.SiblingTimes.{SiblingTimes}
 use Rattle.run_times.specs.Times.{spans_of}
 use Rattle.run_times.specs.Sums.{did, Times, times_of}

@@ -1,7 +1,7 @@
 use Rattle.std.proofs.Common.{ℕ, ◌<◌, ◌≡◌, Option, Some, sym, subst, arith}
 use Rattle.std.specs.Prelude.{IfSome}
 use Rattle.cs_types.specs.History.{fold_of}
-use Rattle.cs_types.proofs.Siblings.{length-fold_of}
+use Rattle.cs_laws.proofs.Siblings.{length-fold_of}
 use Rattle.run_times.specs.Doing.{cookie_run}
 use Rattle.run_times.proofs.Exposed.{exposed_by, unexposed}
 use Rattle.run_times.proofs.looks.is_exposed.Goals as goal

@@ -1,6 +1,6 @@
 use Rattle.std.proofs.Common.{length, sym, ◌∙◌, arith}
 use Rattle.cs_types.specs.History.{fold_of}
-use Rattle.cs_types.proofs.Siblings.{length-fold_of}
+use Rattle.cs_laws.proofs.Siblings.{length-fold_of}
 use Rattle.run_times.specs.Doing.{is_pending}
 use Rattle.run_times.proofs.Below.{some_below, none_below}
 use Rattle.run_times.proofs.looks.some_pending.Goals as goal

@@ -1,5 +1,5 @@
 use Rattle.std.proofs.Common.{◌∙◌, arith}
-use Rattle.cs_types.proofs.Histories.{history_more}
+use Rattle.cs_laws.proofs.Histories.{history_more}
 use Rattle.scenario_input.proofs.playing.play.Goals as goal
 
 pub loop-step-preserved : goal.loop-step-preserved

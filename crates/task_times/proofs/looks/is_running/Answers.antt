@@ -1,6 +1,6 @@
 use Rattle.std.proofs.Common.{Some, None, arith}
 use Rattle.cs_types.specs.History.{moment_of}
-use Rattle.cs_types.proofs.Siblings.{length-fold_of}
+use Rattle.cs_laws.proofs.Siblings.{length-fold_of}
 use Rattle.run_times.proofs.Shown.{rises_of}
 use Rattle.task_times.proofs.Running.{running_shown}
 use Rattle.task_times.proofs.looks.is_running.Goals as goal

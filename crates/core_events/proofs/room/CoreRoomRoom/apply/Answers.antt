@@ -16,16 +16,16 @@ use Rattle.cs_types.specs.Room.{RoomState, SiblingState}
 use Rattle.cs_types.specs.Touches.{selection_of}
 use Rattle.cs_types.specs.History.{History, fold_of, reply_to, history_of, IsLegal}
 use Rattle.cs_types.specs.Laws.{SelectsCoreWide, scheduling_room, cpu_of, LeavesTheRoom}
-use Rattle.cs_types.proofs.Numbers.{asked-fold_of, task_number-ledger_of, next_stamp-fold_of, next_cookie-fold_of, next_pid-fold_of, ended-fold_of}
-use Rattle.cs_types.proofs.Tasks.{few-fold_of}
-use Rattle.cs_types.proofs.Histories.{IsLegal-history_of}
-use Rattle.cs_types.proofs.Selections.{selects}
-use Rattle.cs_types.proofs.Refusals.{refused_leaves}
-use Rattle.cs_types.proofs.BalancePlaces.{places-fold_of}
-use Rattle.cs_types.proofs.Times.{timely-fold_of, clock-step}
-use Rattle.cs_types.proofs.Accounts.{IsAccounted, accounted-fold_of, account_of, charged_up_to}
+use Rattle.cs_laws.proofs.Numbers.{asked-fold_of, task_number-ledger_of, next_stamp-fold_of, next_cookie-fold_of, next_pid-fold_of, ended-fold_of}
+use Rattle.cs_laws.proofs.Tasks.{few-fold_of}
+use Rattle.cs_laws.proofs.Histories.{IsLegal-history_of}
+use Rattle.cs_laws.proofs.Selections.{selects}
+use Rattle.cs_laws.proofs.Refusals.{refused_leaves}
+use Rattle.cs_laws.proofs.BalancePlaces.{places-fold_of}
+use Rattle.cs_laws.proofs.Times.{timely-fold_of, clock-step}
+use Rattle.cs_laws.proofs.Accounts.{IsAccounted, accounted-fold_of, account_of, charged_up_to}
 use Rattle.core_events.proofs.Views.{total_kept, behind_of, own_run}
-use Rattle.cs_types.proofs.Timely.{IsTimely}
+use Rattle.cs_laws.proofs.Timely.{IsTimely}
 use Rattle.core_lanes.specs.declared.lane.Lane.{Lane}
 use Rattle.core_lanes.specs.Numbers.{Numbers, is_fresh_by}
 use Rattle.core_tasks.specs.State.{room_with, state_numbers}

@@ -2,7 +2,7 @@ use Rattle.std.proofs.Common.{subst, arith}
 use Rattle.std.specs.Prelude.{All}
 use Rattle.core_events.specs.Inside.{opening_of}
 use Rattle.cs_types.specs.History.{fold_of, history_of}
-use Rattle.cs_types.proofs.Accounts.{accounted-fold_of, HasDivisor}
+use Rattle.cs_laws.proofs.Accounts.{accounted-fold_of, HasDivisor}
 use Rattle.core_events.specs.Machine.{Machine}
 use Rattle.core_events.proofs.room.CoreRoomRoom.core.Goals as goal
 

@@ -5,8 +5,8 @@ use Rattle.core_events.specs.Inside.{opening_of}
 use Rattle.cs_types.specs.View.{core_view, cpu_view, task_view_after, IsTrusted, AdoptsByNumbers}
 use Rattle.cs_types.specs.Touches.{task_number, pick_number}
 use Rattle.cs_types.specs.History.{moment_of, history_of}
-use Rattle.cs_types.proofs.Histories.{IsLegal-history_of}
-use Rattle.cs_types.proofs.Shown.{trusted-cpu_view, adopts-cpu_view}
+use Rattle.cs_laws.proofs.Histories.{IsLegal-history_of}
+use Rattle.cs_laws.proofs.Shown.{trusted-cpu_view, adopts-cpu_view}
 use Rattle.core_lanes.specs.declared.lane.Lane.{Lane}
 use Rattle.core_lanes.specs.Lanes.{lane_view}
 use Rattle.core_events.specs.Machine.{Machine}

@@ -7,7 +7,7 @@ use Rattle.cs_types.specs.declared.event.Event.TheVariants.{Resched}
 use Rattle.cs_types.specs.declared.reply.Entry.{Entry}
 use Rattle.cs_types.specs.History.{History, history_of, moment_of, fold_of, reply_to}
 use Rattle.cs_types.specs.Drain.{next_to_schedule, IsDrained}
-use Rattle.cs_types.proofs.Histories.{IsLegal-history_of}
+use Rattle.cs_laws.proofs.Histories.{IsLegal-history_of}
 use Rattle.core_events.specs.Machine.{Machine}
 use Rattle.core_events.specs.Inside.{opening_of, machine_of, IsFold}
 use Rattle.core_tasks.specs.Drain.{next_by}

@@ -6,7 +6,7 @@ use Rattle.cs_types.specs.View.{task_after, task_view, task_view_after}
 use Rattle.cs_types.specs.History.{fold_of, history_of, moment_of}
 use Rattle.cs_types.specs.declared.view.TaskView.{TaskView}
 use Rattle.cs_types.specs.Room.{RoomState, has_pid}
-use Rattle.cs_types.proofs.Times.{shown_bounded}
+use Rattle.cs_laws.proofs.Times.{shown_bounded}
 use Rattle.core_events.proofs.Playable.{most_entries-le}
 use Rattle.core_events.specs.Machine.{Machine}
 use Rattle.core_events.proofs.Machines.{folds_of}

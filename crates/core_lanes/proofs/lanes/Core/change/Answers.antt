@@ -3,7 +3,7 @@ use Rattle.std.specs.Prelude.{option_copied}
 use Rattle.std.proofs.lemmas.Bool.{eqb-true}
 use Rattle.cs_types.specs.Room.{has_pid}
 use Rattle.cs_types.proofs.Foremost.{find_passes}
-use Rattle.cs_types.proofs.Tasks.{found_again}
+use Rattle.cs_laws.proofs.Tasks.{found_again}
 use Rattle.task_table.specs.Table.{Table}
 use Rattle.core_lanes.specs.Queued.{HasOwnStamp}
 use Rattle.core_lanes.specs.Lanes.{IsFit, AreHeld, AreHeldBut}
@@ -11,7 +11,7 @@ use Rattle.core_lanes.proofs.Alike.{queued_at-alike}
 use Rattle.core_lanes.proofs.Queues.{others-replaced}
 use Rattle.core_lanes.proofs.Replaced.{is_of, own_stamp, changes_replaced}
 use Rattle.core_lanes.proofs.Stays.{found_in, as_many_bare}
-use Rattle.cs_types.proofs.Spots.{replaced_by}
+use Rattle.cs_laws.proofs.Spots.{replaced_by}
 use Rattle.std.proofs.lemmas.List.{length-map}
 use Rattle.core_lanes.proofs.lanes.Core.change.Goals as goal
 

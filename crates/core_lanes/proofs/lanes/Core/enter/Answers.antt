@@ -3,7 +3,7 @@ use Rattle.std.specs.Prelude.{◌==◌, All, IsTrue, find, slice_get, option_cop
 use Rattle.std.specs.Global.{Vec}
 use Rattle.std.proofs.lemmas.Bool.{cases_Bool, cond-true, cond-false, eqb-true, eqb-false, ne_eqb}
 use Rattle.cs_types.proofs.Foremost.{find_passes}
-use Rattle.cs_types.proofs.Spots.{replaced_by}
+use Rattle.cs_laws.proofs.Spots.{replaced_by}
 use Rattle.cs_types.specs.declared.queue.Queued.{Queued}
 use Rattle.cs_types.specs.declared.task.Task.{Task}
 use Rattle.cs_types.specs.Room.{RoomState, has_pid}

@@ -3,8 +3,8 @@ use Rattle.std.specs.Prelude.{find, option_copied}
 use Rattle.cs_types.specs.declared.task.Task.{Task}
 use Rattle.cs_types.specs.Room.{has_pid}
 use Rattle.cs_types.specs.Queueing.{dequeue}
-use Rattle.cs_types.proofs.Spots.{replaced_by}
-use Rattle.cs_types.proofs.Tasks.{found_again}
+use Rattle.cs_laws.proofs.Spots.{replaced_by}
+use Rattle.cs_laws.proofs.Tasks.{found_again}
 use Rattle.task_table.specs.Table.{Table}
 use Rattle.core_lanes.specs.Lanes.{IsFit, AreHeld, Knows}
 use Rattle.core_lanes.specs.Changes.{Touches}

@@ -2,7 +2,7 @@ use Rattle.std.proofs.Common.{◌≡◌, ◌∙◌, Bor, ap, sym}
 use Rattle.std.specs.Prelude.{find, Option, Some, None, IfSome, option_and_then, option_copied}
 use Rattle.cs_types.specs.declared.task.Task.{Task}
 use Rattle.cs_types.specs.Room.{SiblingState, has_pid, task_of}
-use Rattle.cs_types.proofs.Tasks.{found_again}
+use Rattle.cs_laws.proofs.Tasks.{found_again}
 use Rattle.core_lanes.specs.Lanes.{room_of}
 use Rattle.core_lanes.specs.Queued.{IsOf}
 use Rattle.core_lanes.proofs.Stays.{lane_at}

@@ -1,7 +1,7 @@
 use Rattle.std.proofs.Common.{◌≡◌, ◌<◌, ℕ, refl, sym, subst, ap, ◌∙◌, map}
 use Rattle.std.specs.Prelude.{length, IsTrue}
 use Rattle.cs_types.specs.declared.task.Task.{Task}
-use Rattle.cs_types.proofs.Spots.{replaced_by}
+use Rattle.cs_laws.proofs.Spots.{replaced_by}
 use Rattle.task_table.specs.Table.{Table}
 use Rattle.task_table.proofs.Tables.{changed_each}
 use Rattle.core_lanes.specs.Lanes.{IsFit, FitsIn, AreHeld}

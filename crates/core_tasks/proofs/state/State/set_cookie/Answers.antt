@@ -17,7 +17,7 @@ use Rattle.core_tasks.specs.Cookies.{flagged_for, RunsAtMostAt}
 use Rattle.core_tasks.proofs.Known.{fits_found}
 use Rattle.core_tasks.proofs.Runners.{runs_at_home}
 use Rattle.core_tasks.proofs.Settings.{flagged_core, sets_one, touches_alone}
-use Rattle.cs_types.proofs.Spots.{replaced_by}
+use Rattle.cs_laws.proofs.Spots.{replaced_by}
 use Rattle.std.proofs.lemmas.List.Elements.{All-weaker}
 use Rattle.core_tasks.proofs.state.State.set_cookie.Goals as goal
 

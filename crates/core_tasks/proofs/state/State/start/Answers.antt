@@ -2,7 +2,7 @@ use Rattle.std.proofs.Common.{◌≡◌, ℕ, arith, ◌+◌, ◌∙◌, [], sym
 use Rattle.std.proofs.lemmas.List.{length-map, length-replicate}
 use Rattle.cs_types.specs.Room.{first_pid, asleep_tasks, idle}
 use Rattle.cs_types.specs.Accounting.{total_of}
-use Rattle.cs_types.proofs.Accounts.{total_of-none}
+use Rattle.cs_laws.proofs.Accounts.{total_of-none}
 use Rattle.cookie_refs.proofs.Agreements.{Agree-none}
 use Rattle.task_table.specs.Table.{Table, total_among, total_in}
 use Rattle.core_lanes.specs.Lanes.{BareCore, lane_state, room_by}

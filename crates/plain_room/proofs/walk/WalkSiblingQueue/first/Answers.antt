@@ -4,7 +4,7 @@ use Rattle.std.specs.List.{reduce}
 use Rattle.std.specs.Option.{option_map}
 use Rattle.cs_types.specs.Order.{goes_before}
 use Rattle.cs_types.specs.Queue.{queued_of}
-use Rattle.cs_types.proofs.First.{first_of_reduce}
+use Rattle.cs_laws.proofs.First.{first_of_reduce}
 use Rattle.plain_room.proofs.walk.WalkSiblingQueue.first.Goals as goal
 
 pub returns-in_err-first : goal.returns-in_err-first

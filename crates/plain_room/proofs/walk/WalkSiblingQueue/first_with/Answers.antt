@@ -5,7 +5,7 @@ use Rattle.std.specs.Option.{option_map}
 use Rattle.cs_types.specs.declared.task.Task.{Task}
 use Rattle.cs_types.specs.Order.{goes_before, first_of}
 use Rattle.cs_types.specs.Queue.{queued_of}
-use Rattle.cs_types.proofs.First.{first_of_reduce}
+use Rattle.cs_laws.proofs.First.{first_of_reduce}
 use Rattle.core_lanes.proofs.Lists.{filter-filter}
 use Rattle.core_lanes.specs.Queued.{queued_among, with_cookie}
 use Rattle.plain_room.proofs.walk.WalkSiblingQueue.first_with.Goals as goal

@@ -2,7 +2,7 @@ use Rattle.std.proofs.Common.{arith, rules, ◌≡◌, ◌∙◌, ap, sym, cond}
 use Rattle.std.specs.Prelude.{filter, ◌&&◌, ◌==◌}
 use Rattle.std.specs.List.{reduce}
 use Rattle.cs_types.specs.Order.{goes_before, first_of}
-use Rattle.cs_types.proofs.First.{first_of_reduce}
+use Rattle.cs_laws.proofs.First.{first_of_reduce}
 use Rattle.core_lanes.proofs.Lists.{filter-filter}
 use Rattle.plain_room.proofs.walk.WalkSiblingQueue.next_with.Goals as goal
 

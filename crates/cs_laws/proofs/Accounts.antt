@@ -29,8 +29,8 @@ use Rattle.cs_types.specs.Steal.{stolen}
 use Rattle.cs_types.specs.Hotplug.{leave}
 use Rattle.cs_types.specs.Touches.{is_fresh}
 use Rattle.cs_types.specs.History.{History, Moment, beginning, next, after, fold_of}
-use Rattle.cs_types.proofs.Siblings.{length-step, kept-run_idle, kept-without, length-alike}
-use Rattle.cs_types.proofs.Selections.{occupied}
+use Rattle.cs_laws.proofs.Siblings.{length-step, kept-run_idle, kept-without, length-alike}
+use Rattle.cs_laws.proofs.Selections.{occupied}
 
 -- ---- the account of a room
 

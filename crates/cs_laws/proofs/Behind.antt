@@ -26,11 +26,12 @@ use Rattle.cs_types.specs.Steal.{source_of, stolen, set_place}
 use Rattle.cs_types.specs.Hotplug.{back}
 use Rattle.cs_types.specs.Touches.{is_selected, is_adopted, pick_of, scheduler_of, selection_of, is_selection, is_taken_by, LedgerEntry, Ledger, ledger_entry, task_number, pick_number, own_number, is_fresh}
 use Rattle.cs_types.specs.History.{Moment, step_at, next}
-use Rattle.cs_types.proofs.Siblings.{length-alike, is_online-alike, kept-run_idle, kept-without}
-use Rattle.cs_types.proofs.Selections.{selected_keeps_law, get_or-set_alike}
-use Rattle.cs_types.proofs.Places.{with_sibling_either, mapped_at}
-use Rattle.cs_types.proofs.Homes.{sibling_of-advanced, sibling_of-without}
-use Rattle.cs_types.proofs.Numbers.{task_number-cons, pick_number-cons, own_number-cons, pick_number-le, own_number-le, selection_touches}
+use Rattle.cs_laws.proofs.Siblings.{length-alike, is_online-alike, kept-run_idle, kept-without}
+use Rattle.cs_laws.proofs.Selections.{selected_keeps_law}
+use Rattle.cs_types.proofs.Lists.{get_or-set_alike}
+use Rattle.cs_laws.proofs.Places.{with_sibling_either, mapped_at}
+use Rattle.cs_laws.proofs.Homes.{sibling_of-advanced, sibling_of-without}
+use Rattle.cs_laws.proofs.Numbers.{task_number-cons, pick_number-cons, own_number-cons, pick_number-le, own_number-le, selection_touches}
 
 -- ---- what is kept
 

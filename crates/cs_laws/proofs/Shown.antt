@@ -17,11 +17,11 @@ use Rattle.cs_types.specs.Touches.{is_adopted, task_number, pick_number, own_num
 use Rattle.cs_types.specs.History.{History, Moment, step_at, AreEvents, IsLegal, moment_of}
 use Rattle.cs_types.specs.View.{core_view, cpu_view, task_view, task_view_after, IsTrusted, adopts, AdoptsByNumbers}
 use Rattle.cs_types.proofs.Foremost.{find_passes}
-use Rattle.cs_types.proofs.Rising.{Rises}
-use Rattle.cs_types.proofs.Spots.{spot_of, spot_at}
-use Rattle.cs_types.proofs.Fits.{IsAt, cookie_at}
-use Rattle.cs_types.proofs.Numbers.{own_number-le, fresh-ledger_of}
-use Rattle.cs_types.proofs.Trust.{Holds, holds-moment_of}
+use Rattle.cs_laws.proofs.Rising.{Rises}
+use Rattle.cs_laws.proofs.Spots.{spot_of, spot_at}
+use Rattle.cs_laws.proofs.Fits.{IsAt, cookie_at}
+use Rattle.cs_laws.proofs.Numbers.{own_number-le, fresh-ledger_of}
+use Rattle.cs_laws.proofs.Trust.{Holds, holds-moment_of}
 
 -- ---- the task with a pid is the one with the least pid above the pid below it
 

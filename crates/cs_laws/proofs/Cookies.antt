@@ -16,14 +16,14 @@ use Rattle.cs_types.specs.Room.{RoomState, SiblingState, Waiting, has_pid, sibli
 use Rattle.cs_types.specs.Prctl.{asked_by_call, Setting, setting_by, setting_of, target_of, is_share_from, is_in_scope, is_set, runs_one, set_cookies, makes_cookie, with_used, with_answer, prctl_answer, prctl_room}
 use Rattle.cs_types.specs.Touches.{cookie_touches, setting_touches, selection_of}
 use Rattle.cs_types.proofs.Filtered.{each-filter}
-use Rattle.cs_types.proofs.Tasks.{found_again}
-use Rattle.cs_types.proofs.Rising.{AreRising}
-use Rattle.cs_types.proofs.Selections.{prctl_selects_nothing}
-use Rattle.cs_types.proofs.Spots.{Spot, spot_of, spot_at, each_is_found}
-use Rattle.cs_types.proofs.Moves.{spot_set, spots-set_cookies}
-use Rattle.cs_types.proofs.Places.{mapped_at}
-use Rattle.cs_types.proofs.Fits.{IsAt, cookie_at, Fits, SiblingFits, AllFit, fits_where, fits_absent, all_later}
-use Rattle.cs_types.proofs.Freshness.{fresh_after, fresh_before}
+use Rattle.cs_laws.proofs.Tasks.{found_again}
+use Rattle.cs_laws.proofs.Rising.{AreRising}
+use Rattle.cs_laws.proofs.Selections.{prctl_selects_nothing}
+use Rattle.cs_laws.proofs.Spots.{Spot, spot_of, spot_at, each_is_found}
+use Rattle.cs_laws.proofs.Moves.{spot_set, spots-set_cookies}
+use Rattle.cs_laws.proofs.Places.{mapped_at}
+use Rattle.cs_laws.proofs.Fits.{IsAt, cookie_at, Fits, SiblingFits, AllFit, fits_where, fits_absent, all_later}
+use Rattle.cs_laws.proofs.Freshness.{fresh_after, fresh_before}
 
 -- ---- the tasks that a call sets
 

@@ -1,9 +1,9 @@
 -- Selections: a core-wide selection keeps its law.
-use Rattle.std.proofs.Common.{◌≡◌, ◌≢◌, ℕ, zero, suc, Bool, ◌-◌, ◌<◌, true, false, cond, List, [], ◌∷◌, ◌++◌, map, length, get_or, set, refl, sym, ap, ◌∙◌, subst, inl, inr, Option, Some, None, arith}
-use Rattle.std.specs.Prelude.{nat_lt, ◌==◌, ◌&&◌, ◌||◌, ◌⊎◌, ◌↔◌, filter, count_by, All, Contains, IsTrue, is_none, is_some, not, unwrap_or}
+use Rattle.std.proofs.Common.{◌≡◌, ◌≢◌, ℕ, Bool, ◌-◌, ◌<◌, true, false, cond, List, [], ◌∷◌, ◌++◌, map, length, get_or, refl, sym, ap, ◌∙◌, subst, inl, inr, Option, Some, None, arith}
+use Rattle.std.specs.Prelude.{nat_lt, ◌==◌, ◌&&◌, ◌||◌, ◌⊎◌, filter, count_by, All, Contains, is_none, is_some, not, unwrap_or}
 use Rattle.std.specs.List.{AllByRecursion, range_with_len, enumerate_from}
 use Rattle.std.specs.Option.{option_and_then, option_to_list, IfSome, option_map_or}
-use Rattle.std.proofs.lemmas.Bool.{both_ways, ne_eqb, cases_Bool, cond_both, cases_lt, and_parts, and_from, or_parts, cond-true, eqb-true, eq-eqb}
+use Rattle.std.proofs.lemmas.Bool.{both_ways, ne_eqb, cases_Bool, cond_both, cases_lt, and_parts, or_parts, cond-true, eqb-true, eq-eqb}
 use Rattle.std.proofs.lemmas.Bool.Decides.{nat_tests}
 use Rattle.std.proofs.lemmas.List.{length-map, get_or-map, get_or_default, get_or-set_other}
 use Rattle.std.proofs.lemmas.List.Sums.{length-filter}
@@ -19,7 +19,7 @@ use Rattle.cs_types.specs.declared.reply.Pick.{Pick}
 use Rattle.cs_types.specs.declared.reply.Reply.TheVariants.{Loaded, NoGuard, Dropped, Picked}
 use Rattle.cs_types.specs.declared.reply.Entry.{Entry}
 use Rattle.cs_types.specs.Scenario.{IsEvent}
-use Rattle.cs_types.specs.Room.{Opening, RoomState, SiblingState, idle, queued_on, sibling_of, is_online, online, online_from, running_on, task_of, to_run, with_sibling, absent}
+use Rattle.cs_types.specs.Room.{Opening, RoomState, SiblingState, queued_on, sibling_of, is_online, online, online_from, running_on, task_of, to_run, with_sibling, absent}
 use Rattle.cs_types.specs.Order.{foremost, is_higher_here, outranks, goes_before, first_of}
 use Rattle.cs_types.specs.Selection.{first_on, cookie_of, pid_of, snapshot_of, lead_from, choice, eligible, is_forced, forced_count, is_run, occupation_of, select_for, select, Scheduled, is_plain, pick_plain, pick_anew, adopt_or_pick_anew, schedule, sibling_after_selection}
 use Rattle.cs_types.specs.Accounting.{charge}
@@ -31,18 +31,14 @@ use Rattle.cs_types.specs.Queueing.{dequeue}
 use Rattle.cs_types.specs.History.{History, moment_of, fold_of, ledger_of, reply_to, step_at}
 use Rattle.cs_types.specs.Laws.{first_eligible, has_none_eligible, RunsItsChoice, AwaitsItsChoice, SelectsCoreWide, scheduling_room, cpu_of}
 use Rattle.cs_types.proofs.Foremost.{each_weaker, foremost_none, foremost_one}
-use Rattle.cs_types.proofs.First.{goes_before_is_order, outranks_is_order, higher_at_home}
+use Rattle.cs_laws.proofs.First.{goes_before_is_order, outranks_is_order, higher_at_home}
 use Rattle.cs_types.proofs.Filtered.{each_of_map, each_found, foremost_least, foremost-filter, Contains-filter, Contains-filter_parts, Contains-range, Contains-range_within}
-use Rattle.cs_types.proofs.Histories.{moment_of-push}
-use Rattle.cs_types.proofs.Siblings.{kept-run_idle, kept-without, length-alike, is_online-alike, length-fold_of}
+use Rattle.cs_laws.proofs.Histories.{moment_of-push}
+use Rattle.cs_laws.proofs.Siblings.{kept-run_idle, kept-without, length-alike, is_online-alike, length-fold_of}
 use Rattle.cs_types.specs.Guards.{guard_of, is_bench, is_active, load, unload}
+use Rattle.cs_types.proofs.Lists.{each_both, get_or-set_alike}
 
 -- ---- the first of a list of tasks
-
--- what follows of two facts of an element follows of them at each
-pub each_both : {X : Type 0} (P Q R : X → Type 0) (xs : List X) → ((x : X) → P x → Q x → R x) → AllByRecursion P xs → AllByRecursion Q xs → AllByRecursion R xs
-each_both P Q R [] step ps qs = tt
-each_both P Q R (x ∷ xs) step ps qs = (step x ps.0 qs.0, each_both P Q R xs step ps.1 qs.1)
 
 -- where there is no first, there is no task
 no_first : (tasks : List Task) → first_of tasks ≡ None → tasks ≡ []
@@ -421,14 +417,6 @@ scheduled_keeps_law : (room : RoomState) (fresh : Bool) (cpu : ℕ) (waiting : O
 scheduled_keeps_law room fresh cpu None below up = rescheduled_keeps_law (charge room) cpu below up
 scheduled_keeps_law room true cpu (Some run) below up = tt
 scheduled_keeps_law room false cpu (Some run) below up = rescheduled_keeps_law (charge room) cpu below up
-
--- what a function reads of an element, where a write does not change it
-pub get_or-set_alike : {X Y : Type 0} (f : X → Y) (xs : List X) (i : ℕ) (x : X) (j : ℕ) (d : X) → f x ≡ f (get_or xs i d) → f (get_or (set xs i x) j d) ≡ f (get_or xs j d)
-get_or-set_alike f [] i x j d same = refl
-get_or-set_alike f (y ∷ xs) zero x zero d same = same
-get_or-set_alike f (y ∷ xs) zero x (suc j) d same = refl
-get_or-set_alike f (y ∷ xs) (suc i) x zero d same = refl
-get_or-set_alike f (y ∷ xs) (suc i) x (suc j) d same = get_or-set_alike f xs i x j d same
 
 -- neither the charge nor a sibling's next place of a steal try makes a difference to the law
 balanced_keeps_law : (room : RoomState) (cpu : ℕ) (pick : Pick) (now : RoomState) (place : ℕ) → SelectsCoreWide (charge room) cpu pick now →

@@ -16,10 +16,10 @@ use Rattle.cs_types.specs.Room.{Opening, RoomState, sibling_of, online}
 use Rattle.cs_types.specs.Touches.{is_fresh}
 use Rattle.cs_types.specs.History.{History, Moment, beginning, step_at, next, after, moment_of, IsLegal, events_by, entry_of, made_from, history_of, fold_of, AreEvents}
 use Rattle.cs_types.specs.Drain.{pending, is_ready, lowest, next_to_schedule, entry_by_end, IsEndFrom, IsDrained}
-use Rattle.cs_types.proofs.Histories.{IsLegal-history_of}
-use Rattle.cs_types.proofs.Siblings.{kept, kept-schedule, kept-unless_offline, length-alike, is_online-alike, length-fold_of}
+use Rattle.cs_laws.proofs.Histories.{IsLegal-history_of}
+use Rattle.cs_laws.proofs.Siblings.{kept, kept-schedule, kept-unless_offline, length-alike, is_online-alike, length-fold_of}
 use Rattle.cs_types.proofs.Filtered.{each-filter, Contains-filter_parts}
-use Rattle.cs_types.proofs.Selections.{online_parts}
+use Rattle.cs_laws.proofs.Selections.{online_parts}
 
 -- ---- who schedules next
 

@@ -26,7 +26,7 @@ use Rattle.cs_types.specs.Accounting.{charge}
 use Rattle.cs_types.specs.Time.{advanced, is_running, grown, grown_by}
 use Rattle.cs_types.specs.Touches.{is_fresh}
 use Rattle.cs_types.specs.History.{History, Moment, beginning, next, after, fold_of}
-use Rattle.cs_types.proofs.Tasks.{below_first_pid}
+use Rattle.cs_laws.proofs.Tasks.{below_first_pid}
 use Rattle.cs_types.proofs.Foremost.{find_passes, each_weaker}
 use Rattle.cs_types.proofs.Inserted.{is_above, inserted-first, inserted-past, each-inserted}
 

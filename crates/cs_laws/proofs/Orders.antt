@@ -17,16 +17,16 @@ use Rattle.cs_types.specs.Hotplug.{back, lowest_other, leave}
 use Rattle.cs_types.specs.Accounting.{charge}
 use Rattle.cs_types.specs.Time.{begin_slice, asks_at_tick, advanced}
 use Rattle.cs_types.proofs.Foremost.{find_none, each_weaker}
-use Rattle.cs_types.proofs.Tasks.{found_again}
-use Rattle.cs_types.proofs.Rising.{AreRising, below_high, rising-dequeue, rising-without}
-use Rattle.cs_types.proofs.Siblings.{kept, kept-with_sibling, kept-run_idle, kept-without, length-alike, is_online-alike}
-use Rattle.cs_types.proofs.Spots.{Spot, spot_of, spot_at}
-use Rattle.cs_types.proofs.Moves.{spots-advanced, spots-ticked_room, spots-queue_at_home, spots-dequeue, spots-without, spots-moved, spots-with_child, spots-with_policy, spots-requeue, spot_off, spots-leave}
-use Rattle.cs_types.proofs.Places.{with_sibling_at, with_sibling_either}
-use Rattle.cs_types.proofs.Homes.{IsHoused, IsQueuedOn, stolen_is, running_is_found, rehomed_is_online, rehomed_is_found, child_at_home_is_online, child_is_found, sibling_of-advanced, sibling_of-without}
-use Rattle.cs_types.proofs.Fits.{IsAt, cookie_at, Fits, SiblingFits, AllFit, Has, fits_where, fits_moved, fits_running, fits_away, fits_absent, all_same, all_later, all_flagged, all_placed}
-use Rattle.cs_types.proofs.Freshness.{fresh_after, fresh_before, picked_fresh, slept_fresh, ended_fresh}
-use Rattle.cs_types.proofs.Schedules.{OthersFit, schedule_fits, again_fits}
+use Rattle.cs_laws.proofs.Tasks.{found_again}
+use Rattle.cs_laws.proofs.Rising.{AreRising, below_high, rising-dequeue, rising-without}
+use Rattle.cs_laws.proofs.Siblings.{kept, kept-with_sibling, kept-run_idle, kept-without, length-alike, is_online-alike}
+use Rattle.cs_laws.proofs.Spots.{Spot, spot_of, spot_at}
+use Rattle.cs_laws.proofs.Moves.{spots-advanced, spots-ticked_room, spots-queue_at_home, spots-dequeue, spots-without, spots-moved, spots-with_child, spots-with_policy, spots-requeue, spot_off, spots-leave}
+use Rattle.cs_laws.proofs.Places.{with_sibling_at, with_sibling_either}
+use Rattle.cs_laws.proofs.Homes.{IsHoused, IsQueuedOn, stolen_is, running_is_found, rehomed_is_online, rehomed_is_found, child_at_home_is_online, child_is_found, sibling_of-advanced, sibling_of-without}
+use Rattle.cs_laws.proofs.Fits.{IsAt, cookie_at, Fits, SiblingFits, AllFit, Has, fits_where, fits_moved, fits_running, fits_away, fits_absent, all_same, all_later, all_flagged, all_placed}
+use Rattle.cs_laws.proofs.Freshness.{fresh_after, fresh_before, picked_fresh, slept_fresh, ended_fresh}
+use Rattle.cs_laws.proofs.Schedules.{OthersFit, schedule_fits, again_fits}
 use Rattle.cs_types.specs.Guards.{guard_of, is_bench, is_active, load, unload}
 
 -- ---- steps

@@ -15,7 +15,7 @@ use Rattle.cs_types.specs.Access.{Rule, guard_rule, access_rules, asked_about}
 use Rattle.cs_types.specs.Room.{RoomState, task_of}
 use Rattle.cs_types.specs.Prctl.{Row, is_in_scope, is_thread, members, target_of, may_access_each, asked_about_each, asked_about_members, rows_before_making, rows_after_making, asked_by_call}
 use Rattle.cs_types.proofs.Foremost.{each_weaker}
-use Rattle.cs_types.proofs.Times.{all_set, all_get}
+use Rattle.cs_types.proofs.Lists.{all_set, all_get}
 
 -- ---- how many guards are asked
 

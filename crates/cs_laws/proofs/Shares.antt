@@ -29,9 +29,10 @@ use Rattle.cs_types.specs.Steal.{source_of, stolen, set_place}
 use Rattle.cs_types.specs.Hotplug.{leave, back}
 use Rattle.cs_types.specs.Touches.{is_fresh}
 use Rattle.cs_types.specs.History.{History, Moment, beginning, next, after, fold_of}
-use Rattle.cs_types.proofs.Siblings.{map-set_alike, map-enumerate_alike, map-map_alike, length-step}
-use Rattle.cs_types.proofs.Selections.{numbered_after_selection, to_run-sibling_after_selection}
-use Rattle.cs_types.proofs.Accounts.{IsAccounted, account_of, charged_up_to, open_since, now-charge, charge-again, accounted-step, accounted-beginning}
+use Rattle.cs_types.proofs.Lists.{map-set_alike, map-enumerate_alike, map-map_alike}
+use Rattle.cs_laws.proofs.Siblings.{length-step}
+use Rattle.cs_laws.proofs.Selections.{numbered_after_selection, to_run-sibling_after_selection}
+use Rattle.cs_laws.proofs.Accounts.{IsAccounted, account_of, charged_up_to, open_since, now-charge, charge-again, accounted-step, accounted-beginning}
 
 -- ---- how many siblings are to run a task
 

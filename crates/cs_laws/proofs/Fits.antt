@@ -7,8 +7,8 @@ use Rattle.std.proofs.lemmas.Option.{IfSome_then}
 use Rattle.cs_types.specs.Room.{RoomState, SiblingState, Waiting, absent, sibling_of, is_online, flag}
 use Rattle.cs_types.specs.Selection.{is_run}
 use Rattle.cs_types.specs.Steal.{set_place}
-use Rattle.cs_types.proofs.Spots.{Spot, spot_at}
-use Rattle.cs_types.proofs.Places.{with_sibling_either}
+use Rattle.cs_laws.proofs.Spots.{Spot, spot_at}
+use Rattle.cs_laws.proofs.Places.{with_sibling_either}
 
 -- ---- what a sibling has
 

@@ -22,17 +22,18 @@ use Rattle.cs_types.specs.Drain.{pending}
 use Rattle.cs_types.specs.Laws.{RunsWithCookie, IsSettled, RunOneCookie, pids_on, IsConsistentAt}
 use Rattle.cs_types.proofs.Foremost.{find_passes, each_weaker}
 use Rattle.cs_types.proofs.Filtered.{each_found, Contains-filter}
-use Rattle.cs_types.proofs.Rising.{AreRising, rising-step, rising-fold_of}
-use Rattle.cs_types.proofs.Siblings.{get_or-map_default, length-step}
-use Rattle.cs_types.proofs.Selections.{online_parts}
+use Rattle.cs_laws.proofs.Rising.{AreRising, rising-step, rising-fold_of}
+use Rattle.cs_types.proofs.Lists.{get_or-map_default}
+use Rattle.cs_laws.proofs.Siblings.{length-step}
+use Rattle.cs_laws.proofs.Selections.{online_parts}
 use Rattle.cs_types.proofs.Inserted.{each-inserted}
-use Rattle.cs_types.proofs.Spots.{spot_of, spot_at, each_is_found}
-use Rattle.cs_types.proofs.Homes.{IsHome, IsHoused, housed-step}
-use Rattle.cs_types.proofs.Fits.{IsAt, cookie_at, SiblingFits, AllFit, fits_running, fits_absent, waiting_then}
-use Rattle.cs_types.proofs.Freshness.{fresh_after, is_fresh-ledger_entry}
-use Rattle.cs_types.proofs.Behind.{AllBehind, behind_next}
-use Rattle.cs_types.proofs.Orders.{load-fits, unload-fits, StepFits, resched-fits, turn-fits, block-fits, exit-fits, wake-fits, fork-fits, tick-fits, advanced-fits, set_policy-fits, take_offline-fits, bring_online-fits}
-use Rattle.cs_types.proofs.Cookies.{prctl-fits}
+use Rattle.cs_laws.proofs.Spots.{spot_of, spot_at, each_is_found}
+use Rattle.cs_laws.proofs.Homes.{IsHome, IsHoused, housed-step}
+use Rattle.cs_laws.proofs.Fits.{IsAt, cookie_at, SiblingFits, AllFit, fits_running, fits_absent, waiting_then}
+use Rattle.cs_laws.proofs.Freshness.{fresh_after, is_fresh-ledger_entry}
+use Rattle.cs_laws.proofs.Behind.{AllBehind, behind_next}
+use Rattle.cs_laws.proofs.Orders.{load-fits, unload-fits, StepFits, resched-fits, turn-fits, block-fits, exit-fits, wake-fits, fork-fits, tick-fits, advanced-fits, set_policy-fits, take_offline-fits, bring_online-fits}
+use Rattle.cs_laws.proofs.Cookies.{prctl-fits}
 
 -- ---- at every step
 

@@ -3,9 +3,9 @@ use Rattle.std.proofs.Common.{◌≡◌, ℕ, ◌*◌, ◌≤◌, ◌<◌, [], �
 use Rattle.cs_types.specs.Room.{Opening}
 use Rattle.cs_types.specs.History.{History, Moment, moment_of}
 use Rattle.cs_types.specs.Drain.{next_to_schedule, entry_by_end}
-use Rattle.cs_types.proofs.Histories.{moment_of-push}
-use Rattle.cs_types.proofs.Siblings.{length-fold_of}
-use Rattle.cs_types.proofs.Measures.{measure, measure-le, measure-next}
+use Rattle.cs_laws.proofs.Histories.{moment_of-push}
+use Rattle.cs_laws.proofs.Siblings.{length-fold_of}
+use Rattle.cs_laws.proofs.Measures.{measure, measure-le, measure-next}
 
 -- After a history the measure is at most the square of the siblings.
 pub measure-moment_of : (opening : Opening) (history : History) → measure (moment_of opening history) ≤ opening.scenario.siblings * opening.scenario.siblings

@@ -27,13 +27,13 @@ use Rattle.cs_types.specs.Time.{with_growth, least_of, advanced}
 use Rattle.cs_types.proofs.Foremost.{find_passes}
 use Rattle.cs_types.proofs.Filtered.{each-filter, each_found}
 use Rattle.cs_types.proofs.Inserted.{found-inserted}
-use Rattle.cs_types.proofs.Tasks.{found_again}
-use Rattle.cs_types.proofs.Rising.{AreRising}
-use Rattle.cs_types.proofs.Siblings.{map-enumerate_alike, map-map_alike, get_or-map_default, kept, kept-schedule, kept-try_steal, kept-run_idle, kept-without, kept-queue_at_home, kept-tick, kept-with_answer, kept-set_policy, length-alike, is_online-alike, length-step}
-use Rattle.cs_types.proofs.Selections.{each_both}
-use Rattle.cs_types.proofs.Spots.{Spot, spot_at, each_is_found}
-use Rattle.cs_types.proofs.Moves.{spots-schedule, spots-advanced, spots-ticked_room, spots-queue_at_home, spots-dequeue, spots-without, spots-moved, spots-with_child, spots-with_policy_set, spot_off, spots-leave, spot_set, spots-set_cookies}
-use Rattle.cs_types.proofs.Places.{with_sibling_either, mapped_at, enumerated_at, lowest_online_is, lowest_other_is}
+use Rattle.cs_laws.proofs.Tasks.{found_again}
+use Rattle.cs_laws.proofs.Rising.{AreRising}
+use Rattle.cs_types.proofs.Lists.{map-enumerate_alike, map-map_alike, get_or-map_default, each_both}
+use Rattle.cs_laws.proofs.Siblings.{kept, kept-schedule, kept-try_steal, kept-run_idle, kept-without, kept-queue_at_home, kept-tick, kept-with_answer, kept-set_policy, length-alike, is_online-alike, length-step}
+use Rattle.cs_laws.proofs.Spots.{Spot, spot_at, each_is_found}
+use Rattle.cs_laws.proofs.Moves.{spots-schedule, spots-advanced, spots-ticked_room, spots-queue_at_home, spots-dequeue, spots-without, spots-moved, spots-with_child, spots-with_policy_set, spot_off, spots-leave, spot_set, spots-set_cookies}
+use Rattle.cs_laws.proofs.Places.{with_sibling_either, mapped_at, enumerated_at, lowest_online_is, lowest_other_is}
 
 -- ---- homes
 

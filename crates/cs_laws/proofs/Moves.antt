@@ -15,8 +15,8 @@ use Rattle.cs_types.specs.Time.{is_running, grown, grown_by, advanced, ticked_ro
 use Rattle.cs_types.specs.Hotplug.{lowest_other, moved_off, leave}
 use Rattle.cs_types.specs.Prctl.{Setting, is_set, set_cookies}
 use Rattle.cs_types.proofs.Foremost.{find_passes}
-use Rattle.cs_types.proofs.Rising.{pid-grown_by}
-use Rattle.cs_types.proofs.Spots.{Spot, spot_of, spot_at, find-map, spot_in-map, spot_in-replaced, find-replaced, spot_in-alike, spot_in-without, spot_in-inserted}
+use Rattle.cs_laws.proofs.Rising.{pid-grown_by}
+use Rattle.cs_laws.proofs.Spots.{Spot, spot_of, spot_at, find-map, spot_in-map, spot_in-replaced, find-replaced, spot_in-alike, spot_in-without, spot_in-inserted}
 
 -- ---- a schedule moves no task
 

@@ -1,6 +1,6 @@
 -- Siblings: no step adds a sibling or takes one from the room, and only leaving and coming back change whether one is
 -- online.
-use Rattle.std.proofs.Common.{◌≡◌, ℕ, zero, suc, ◌+◌, Bool, true, false, List, [], ◌∷◌, map, length, get_or, set, refl, sym, ap, ◌∙◌, Option, Some, None}
+use Rattle.std.proofs.Common.{◌≡◌, ℕ, Bool, true, false, List, [], ◌∷◌, map, length, get_or, set, refl, sym, ap, ◌∙◌, Option, Some, None}
 use Rattle.std.specs.Prelude.{◌==◌, ◌||◌, not}
 use Rattle.std.specs.List.{enumerate_from}
 use Rattle.std.proofs.lemmas.Bool.{cond_both}
@@ -25,25 +25,7 @@ use Rattle.cs_types.specs.Hotplug.{leave}
 use Rattle.cs_types.specs.Time.{with_growth, advanced, begin_slice}
 use Rattle.cs_types.specs.Touches.{is_fresh}
 use Rattle.cs_types.specs.History.{History, Moment, beginning, next, after, fold_of}
-
--- ---- lists
-
--- a write leaves the values of a function that does not tell the new element from the one in its place
-pub map-set_alike : {X Y : Type 0} (f : X → Y) (xs : List X) (i : ℕ) (x d : X) → f x ≡ f (get_or xs i d) → map f (set xs i x) ≡ map f xs
-map-set_alike f [] i x d same = refl
-map-set_alike f (y ∷ xs) zero x d same = ap (λ z. z ∷ map f xs) same
-map-set_alike f (y ∷ xs) (suc i) x d same = ap (λ zs. f y ∷ zs) (map-set_alike f xs i x d same)
-
--- so does a change of every element, made by its number
-pub map-enumerate_alike : {X Y : Type 0} (f : X → Y) (g : ℕ × X → X) → ((numbered : ℕ × X) → f (g numbered) ≡ f numbered.1) → (n : ℕ) (xs : List X) → map f (map g (enumerate_from n xs)) ≡ map f xs
-map-enumerate_alike f g same n [] = refl
-map-enumerate_alike f g same n (x ∷ xs) = cc (same (n, x), map-enumerate_alike f g same (n + 1) xs)
-
--- an element of a mapped list, also past its end
-pub get_or-map_default : {X Y : Type 0} (f : X → Y) (xs : List X) (i : ℕ) (d : X) → get_or (map f xs) i (f d) ≡ f (get_or xs i d)
-get_or-map_default f [] i d = refl
-get_or-map_default f (x ∷ xs) zero d = refl
-get_or-map_default f (x ∷ xs) (suc i) d = get_or-map_default f xs i d
+use Rattle.cs_types.proofs.Lists.{map-set_alike, map-enumerate_alike, map-map_alike, get_or-map_default}
 
 -- ---- what each change of a room keeps
 
@@ -110,11 +92,6 @@ kept-wake room None = refl
 kept-wake room (Some task) =
     cond_both task.queued _ _ (λ (made : Stepped). kept made.room ≡ kept room) (λ _. refl)
     (λ _. kept-queue_at_home room (rehomed room task))
-
--- a change of every sibling that keeps whether it is online
-pub map-map_alike : {X Y : Type 0} (f : X → Y) (g : X → X) → ((x : X) → f (g x) ≡ f x) → (xs : List X) → map f (map g xs) ≡ map f xs
-map-map_alike f g same [] = refl
-map-map_alike f g same (x ∷ xs) = cc (same x, map-map_alike f g same xs)
 
 pub kept-without : (room : RoomState) (cpu : ℕ) (task : Task) → kept (run_idle (without room task) cpu) ≡ kept room
 kept-without room cpu task = kept-with_sibling (without room task) cpu _ refl

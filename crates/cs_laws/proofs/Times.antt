@@ -1,11 +1,10 @@
 -- Times: how far the clock and the times come at each step, and so in a history.
-use Rattle.std.proofs.Common.{◌≡◌, ℕ, zero, suc, ◌+◌, ◌*◌, ◌<◌, ◌≤◌, length, max, ℤ, Bool, true, false, cond, not, ltb, List, [], ◌∷◌, map, get_or, set, refl, sym, ap, ◌∙◌, subst, inl, inr, Option, Some, None, arith, ◌^◌}
-use Rattle.std.specs.Prelude.{◌⊎◌, ◌==◌, ◌&&◌, ◌||◌, is_some, filter, fold, replicate, All}
+use Rattle.std.proofs.Common.{◌≡◌, ℕ, zero, suc, ◌+◌, ◌*◌, ◌<◌, ◌≤◌, length, max, Bool, true, false, cond, not, ltb, List, [], ◌∷◌, map, get_or, set, refl, sym, ap, ◌∙◌, subst, inl, inr, Option, Some, None, arith, ◌^◌}
+use Rattle.std.specs.Prelude.{◌⊎◌, ◌==◌, ◌&&◌, ◌||◌, is_some, filter, fold, All}
 use Rattle.std.specs.List.{AllByRecursion, enumerate_from}
 use Rattle.std.specs.Option.{IfSome, option_map_or, option_map}
-use Rattle.std.proofs.Math.Nat.{div-le_of_le-mul, max-le, le-max_left}
+use Rattle.std.proofs.Math.Nat.{max-le, le-max_left}
 use Rattle.std.proofs.lemmas.Bool.{cond_both, cases_lt}
-use Rattle.std.proofs.lemmas.Bool.Decides.{nat_tests}
 use Rattle.std.proofs.lemmas.Nat.{mul-le}
 use Rattle.std.proofs.lemmas.List.Elements.{All-from_recursion, All-weaker, recursion_from_All}
 use Rattle.cs_types.specs.declared.task.Task.{Task}
@@ -21,8 +20,8 @@ use Rattle.cs_types.specs.Scenario.{IsEvent}
 use Rattle.cs_types.specs.Room.{Opening, RoomState, SiblingState, idle, absent, asleep, inserted, has_pid, start, online, is_online, lowest_online, queued_on, sibling_of, running_on, task_of, with_sibling, with_task, flag}
 use Rattle.cs_types.specs.Order.{foremost, is_fair, first_of}
 use Rattle.cs_types.specs.Selection.{sibling_after_selection, task_after_selection, select_for, select, pick_plain, is_plain, pick_anew, adopt_or_pick_anew, schedule}
-use Rattle.cs_types.specs.Time.{weights, weight_of, weight_index, growth, grown_by, is_running, grown, with_growth, fair_times, least_of, with_leasts, advanced, has_used_slice, begin_slice}
-use Rattle.cs_types.proofs.Timely.{IsTimelyTask, IsTimelySibling, IsTimely}
+use Rattle.cs_types.specs.Time.{grown_by, is_running, grown, with_growth, fair_times, least_of, with_leasts, advanced, has_used_slice, begin_slice}
+use Rattle.cs_laws.proofs.Timely.{IsTimelyTask, IsTimelySibling, IsTimely}
 use Rattle.cs_types.specs.Prctl.{asked_by_call, Setting, setting_of, is_set, makes_cookie, with_used, with_answer, prctl_answer}
 use Rattle.cs_types.specs.Step.{Stepped, step, wake, turn, try_steal, run_idle, block, without, has_threads, exit, child_of, child_at_home, with_child, may_not_fork, fork, tick, unless_offline, with_policy, set_policy, take_offline, bring_online}
 use Rattle.cs_types.specs.Queueing.{refreshed_by, refreshed, enqueue, queue_at_home, dequeue, moved_to, moved, rehomed}
@@ -33,54 +32,12 @@ use Rattle.cs_types.specs.Accounting.{charge, without_interval}
 use Rattle.cs_types.specs.Touches.{is_fresh}
 use Rattle.cs_types.specs.History.{History, Moment, beginning, next, after, moment_of, fold_of}
 use Rattle.cs_types.specs.View.{task_after, task_view, task_view_after}
-use Rattle.cs_types.proofs.Foremost.{each_of_all, each_weaker}
+use Rattle.cs_types.proofs.Foremost.{each_weaker}
 use Rattle.cs_types.proofs.Filtered.{each-filter, each_found}
 use Rattle.cs_types.proofs.Inserted.{each-inserted}
-use Rattle.cs_types.proofs.Siblings.{map-set_alike, map-enumerate_alike, map-map_alike, get_or-map_default, kept-with_answer, parts_of, kept, kept-with_sibling, kept-select_for, least-alike}
-
--- ---- lists
-
--- what holds of a function at each element holds of each value
-pub all_map : {X Y : Type 0} (P : Y → Type 0) (f : X → Y) (xs : List X) → AllByRecursion (λ x. P (f x)) xs → AllByRecursion P (map f xs)
-all_map P f [] all = tt
-all_map P f (x ∷ xs) all = (all.0, all_map P f xs all.1)
-
-pub all_enumerated : {X : Type 0} (P : X → Type 0) (f : ℕ × X → X) → ((n : ℕ) (x : X) → P x → P (f (n, x))) → (n : ℕ) (xs : List X) → AllByRecursion P xs → AllByRecursion P (map f (enumerate_from n xs))
-all_enumerated P f step n [] all = tt
-all_enumerated P f step n (x ∷ xs) all = (step n x all.0, all_enumerated P f step (n + 1) xs all.1)
-
-pub all_set : {X : Type 0} (P : X → Type 0) (xs : List X) (i : ℕ) (x : X) → P x → AllByRecursion P xs → AllByRecursion P (set xs i x)
-all_set P [] i x is all = tt
-all_set P (y ∷ xs) zero x is all = (is, all.1)
-all_set P (y ∷ xs) (suc i) x is all = (all.0, all_set P xs i x is all.1)
-
-pub all_get : {X : Type 0} (P : X → Type 0) (xs : List X) (i : ℕ) (d : X) → P d → AllByRecursion P xs → P (get_or xs i d)
-all_get P [] i d is all = is
-all_get P (x ∷ xs) zero d is all = all.0
-all_get P (x ∷ xs) (suc i) d is all = all_get P xs i d is all.1
-
-pub all_replicate : {X : Type 0} (P : X → Type 0) (n : ℕ) (x : X) → P x → AllByRecursion P (replicate n x)
-all_replicate P zero x is = tt
-all_replicate P (suc n) x is = (is, all_replicate P n x is)
-
--- ---- growth
-
--- No weight is below 15.
-pub weight_of-ge : (nice : ℤ) → 15 ≤ weight_of nice
-unfolding weight_of
-weight_of-ge nice =
-    all_get (λ w. 15 ≤ w) weights (weight_index nice) 1024 (omega arith)
-    (each_weaker (λ w. not (ltb w 15) ≡ true) (λ w. 15 ≤ w) weights (λ w e. grind (arith, nat_tests))
-    (each_of_all (λ w. not (ltb w 15)) weights refl))
-
-few_per_weight : (w delta : ℕ) → 15 ≤ w → delta * 1024 ≤ w * (69 * delta)
-few_per_weight w delta big =
-    let more : (15 * (69 * delta)) ≤ w * (69 * delta) = grind (arith) in omega (arith, more)
-
--- So virtual time grows at most 69 times as fast as the clock.
-pub growth-le : (delta : ℕ) (nice : ℤ) → growth delta nice ≤ 69 * delta
-unfolding growth
-growth-le delta nice = div-le_of_le-mul (weight_of nice) (few_per_weight (weight_of nice) delta (weight_of-ge nice))
+use Rattle.cs_types.proofs.Lists.{map-set_alike, map-enumerate_alike, map-map_alike, get_or-map_default, all_map, all_enumerated, all_set, all_get, all_replicate}
+use Rattle.cs_laws.proofs.Siblings.{kept-with_answer, parts_of, kept, kept-with_sibling, kept-select_for, least-alike}
+use Rattle.cs_types.proofs.Growth.{growth-le}
 
 -- ---- a room at a moment
 

@@ -10,15 +10,15 @@ use Rattle.cs_types.specs.Selection.{first_on, queued_with, cookie_of, pid_of, c
 use Rattle.cs_types.specs.Accounting.{charge, without_interval}
 use Rattle.cs_types.specs.Touches.{is_selected}
 use Rattle.cs_types.proofs.Filtered.{each-filter, each_found}
-use Rattle.cs_types.proofs.Rising.{AreRising}
-use Rattle.cs_types.proofs.Selections.{choice_matches, is_run_same, numbered_after_selection}
-use Rattle.cs_types.proofs.Siblings.{kept-adopt_or_pick_anew, is_online-alike}
-use Rattle.cs_types.proofs.Spots.{spot_of, spot_at}
-use Rattle.cs_types.proofs.Moves.{spots-select_for}
-use Rattle.cs_types.proofs.Places.{with_sibling_at, enumerated_at}
-use Rattle.cs_types.proofs.Homes.{IsQueuedOn, each_queued}
-use Rattle.cs_types.proofs.Fits.{Fits, IsAt, cookie_at, SiblingFits, AllFit, fits_same, fits_running, fits_waiting, fits_away, all_same, all_placed, fits_absent}
-use Rattle.cs_types.proofs.Freshness.{freshened}
+use Rattle.cs_laws.proofs.Rising.{AreRising}
+use Rattle.cs_laws.proofs.Selections.{choice_matches, is_run_same, numbered_after_selection}
+use Rattle.cs_laws.proofs.Siblings.{kept-adopt_or_pick_anew, is_online-alike}
+use Rattle.cs_laws.proofs.Spots.{spot_of, spot_at}
+use Rattle.cs_laws.proofs.Moves.{spots-select_for}
+use Rattle.cs_laws.proofs.Places.{with_sibling_at, enumerated_at}
+use Rattle.cs_laws.proofs.Homes.{IsQueuedOn, each_queued}
+use Rattle.cs_laws.proofs.Fits.{Fits, IsAt, cookie_at, SiblingFits, AllFit, fits_same, fits_running, fits_waiting, fits_away, all_same, all_placed, fits_absent}
+use Rattle.cs_laws.proofs.Freshness.{freshened}
 
 -- ---- what is chosen
 

@@ -17,11 +17,12 @@ use Rattle.cs_types.specs.Accounting.{charge}
 use Rattle.cs_types.specs.Step.{Stepped, picked}
 use Rattle.cs_types.specs.History.{Moment, step_at, next}
 use Rattle.cs_types.specs.Drain.{pending, is_ready, next_to_schedule, entry_by_end}
-use Rattle.cs_types.proofs.Siblings.{length-step}
+use Rattle.cs_laws.proofs.Siblings.{length-step}
 use Rattle.cs_types.proofs.Filtered.{Contains-filter, Contains-filter_parts, Contains-range}
-use Rattle.cs_types.proofs.Selections.{online_parts, sibling_of-select_for, selected_keeps_law, get_or-set_alike}
-use Rattle.cs_types.proofs.Numbers.{untouched, untouched-cons}
-use Rattle.cs_types.proofs.Drains.{next_is_pending}
+use Rattle.cs_laws.proofs.Selections.{online_parts, sibling_of-select_for, selected_keeps_law}
+use Rattle.cs_types.proofs.Lists.{get_or-set_alike}
+use Rattle.cs_laws.proofs.Numbers.{untouched, untouched-cons}
+use Rattle.cs_laws.proofs.Drains.{next_is_pending}
 
 -- ---- counts of a range
 

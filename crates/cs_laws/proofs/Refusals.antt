@@ -16,7 +16,7 @@ use Rattle.cs_types.specs.Steal.{stolen}
 use Rattle.cs_types.specs.Step.{load_answer, unload_answer, Stepped, step, wake, turn, try_steal, unless_offline, block, exit, has_threads, fork, may_not_fork, tick, set_policy, take_offline, bring_online}
 use Rattle.cs_types.specs.History.{History, step_at, moment_of, fold_of, reply_to}
 use Rattle.cs_types.specs.Laws.{is_refused, asked_by, uses_serial, LeavesTheRoom}
-use Rattle.cs_types.proofs.Histories.{moment_of-push}
+use Rattle.cs_laws.proofs.Histories.{moment_of-push}
 use Rattle.cs_types.specs.Guards.{guard_of, is_bench, is_active, load, unload, with_guard, asked_each}
 use Rattle.cs_types.specs.declared.view.GuardPlace.TheVariants.{Active, Dropped}
 

@@ -23,7 +23,7 @@ use Rattle.cs_types.specs.Hotplug.{away, leave}
 use Rattle.cs_types.specs.Touches.{is_fresh}
 use Rattle.cs_types.specs.History.{History, Moment, beginning, next, after, fold_of}
 use Rattle.cs_types.proofs.Foremost.{each_weaker}
-use Rattle.cs_types.proofs.Times.{all_map, all_enumerated, all_set, all_get, all_replicate}
+use Rattle.cs_types.proofs.Lists.{all_map, all_enumerated, all_set, all_get, all_replicate}
 
 -- no balance place is above this
 abbrev Low : ℕ → SiblingState → Type 0

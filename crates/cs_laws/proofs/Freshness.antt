@@ -12,7 +12,7 @@ use Rattle.cs_types.specs.declared.reply.Reply.TheVariants.{Picked, Slept, Ended
 use Rattle.cs_types.specs.declared.reply.Entry.{Entry}
 use Rattle.cs_types.specs.Room.{RoomState}
 use Rattle.cs_types.specs.Touches.{is_selected, is_adopted, selection_of, is_selection, touches_by, Ledger, ledger_entry, is_fresh}
-use Rattle.cs_types.proofs.Numbers.{untouched, untouched-cons}
+use Rattle.cs_laws.proofs.Numbers.{untouched, untouched-cons}
 
 -- whether a selection is fresh after an event with this reply, where the test says whether one was before it
 abbrev pub fresh_after : RoomState → Bool → Event → Reply → Bool

@@ -30,9 +30,9 @@ use Rattle.cs_types.specs.Queueing.{dequeue}
 use Rattle.cs_types.specs.Time.{advanced, rotates}
 use Rattle.cs_types.specs.Touches.{is_selected, is_adopted, pick_touches, cookie_touches, set_touches, selection_of, is_selection, policy_touches, policy_set_touches, leaving_touches, touches_by, LedgerEntry, Ledger, ledger_entry, back_to, task_number, pick_number, own_number, is_taken_by, is_fresh}
 use Rattle.cs_types.specs.History.{History, Moment, next, after, fold_of, ledger_of, beginning}
-use Rattle.cs_types.proofs.Tasks.{length-asleep_tasks, few-step}
+use Rattle.cs_laws.proofs.Tasks.{length-asleep_tasks, few-step}
 use Rattle.cs_types.proofs.Foremost.{each_weaker}
-use Rattle.cs_types.proofs.Askings.{AskedAtMost, AsksFew, asks_none, asks-call, asks-load, asks-unload, never_asked}
+use Rattle.cs_laws.proofs.Askings.{AskedAtMost, AsksFew, asks_none, asks-call, asks-load, asks-unload, never_asked}
 use Rattle.cs_types.specs.Guards.{GuardState, GuardList, asked_each}
 use Rattle.std.proofs.lemmas.Nat.{mul-le}
 use Rattle.std.proofs.lemmas.List.Elements.{All-from_recursion}

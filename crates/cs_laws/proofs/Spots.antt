@@ -10,7 +10,7 @@ use Rattle.cs_types.specs.declared.task.Task.{Task}
 use Rattle.cs_types.specs.Room.{RoomState, has_pid, inserted}
 use Rattle.cs_types.proofs.Foremost.{find_passes, each_weaker}
 use Rattle.cs_types.proofs.Inserted.{find-inserted}
-use Rattle.cs_types.proofs.Rising.{Rises}
+use Rattle.cs_laws.proofs.Rising.{Rises}
 
 -- ---- spots
 
