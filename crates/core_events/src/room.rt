@@ -7,18 +7,15 @@ ghost use Rattle.cs_types.specs.Room.{RoomState};
 ghost use Rattle.cs_types.specs.View.{task_view, forced_of};
 ghost use Rattle.core_tasks.specs.State.{room_with};
 ghost use Rattle.core_tasks.specs.Steps.{Makes};
-ghost use Rattle.ptrace_check.specs.Opened.{MayStart, HasStarted};
+ghost use Rattle.cs_types.specs.Opened.{MayStart, HasStarted};
 ghost use Rattle.core_events.specs.Ready.{IsReadyFor};
 
 use crate::events::apply;
 use core_lanes::SiblingQueue;
 use core_tasks::{State, next_to_schedule};
 use cs_outside::Guard;
-use cs_types::{
-    Actor, CoreView, Cpu, CpuView, EndView, Entry, Event, GuardView, OutOfMemory, Pid, Reply, Room,
-    Scenario, Steps, Task, TaskView,
-};
-use ptrace_check::{FromScenario, Guards};
+use cs_types::{Actor, CoreView, Cpu, CpuView, EndView, Entry, Event, FromScenario, GuardView, OutOfMemory, Pid, Reply, Room, Scenario, Steps, Task, TaskView};
+use ptrace_check::Guards;
 use std::alloc::Global;
 use std::marker::{Brand, Model};
 use std::snapshot::Snapshot;
@@ -102,8 +99,8 @@ impl<Q: SiblingQueue, G: Guard> CoreRoom<Q, G> {
         scenario: &Scenario,
         guards: Guards<G>,
     ) -> Result<CoreRoom<Q, G>, OutOfMemory>
-        requires { MayStart scenario.now guards }
-        ensures { IfOk result (λ room. HasStarted scenario.now guards room.opening (history_of room.opening room.steps) room.spare) }
+        requires { MayStart scenario.now guards.guards }
+        ensures { IfOk result (λ room. HasStarted scenario.now guards.guards room.opening (history_of room.opening room.steps) room.spare) }
     {
         let most = most_entries(scenario);
         let entries = Vec::with_capacity(alloc, most)?;

@@ -2,7 +2,7 @@
 //! whatever the machine keeps beside.
 
 ghost use Rattle.std.specs.Prelude.{IfOk};
-ghost use Rattle.ptrace_check.specs.Opened.{MayStart, opened};
+ghost use Rattle.cs_types.specs.Opened.{MayStart, opened};
 
 use crate::start::{core_and_tasks, first_pid};
 use cookie_refs::CookieRefs;
@@ -46,8 +46,8 @@ impl<Q: SiblingQueue, G: Guard> State<Q, G> {
         most: usize,
         guards: Guards<G>,
     ) -> Result<State<Q, G>, OutOfMemory>
-        requires { MayStart scenario.now guards }
-        ensures { IfOk result (IsFirstState (opened scenario.now guards) most) }
+        requires { MayStart scenario.now guards.guards }
+        ensures { IfOk result (IsFirstState (opened scenario.now guards.guards) most) }
     {
         let ended = Vec::with_capacity(alloc, most)?;
         let refs = CookieRefs::with_limit(alloc, scenario.cookie_limit)?;

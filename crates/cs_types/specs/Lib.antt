@@ -18,6 +18,7 @@ pub mod Shuffles
 pub mod Drain
 pub mod View
 pub mod Laws
+pub mod Opened
 pub mod Lending
 pub mod Queue
 pub mod Comparisons

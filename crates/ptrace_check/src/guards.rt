@@ -11,7 +11,7 @@ ghost use Rattle.ptrace_check.specs.Inside.{guards_in};
 use crate::answer::{LoadAnswer, TeachAnswer, UnloadAnswer};
 use crate::seat::Seat;
 use cs_outside::Guard;
-use cs_types::{GuardView, OutOfMemory};
+use cs_types::{Bench, GuardView, OutOfMemory};
 use std::alloc::Global;
 use std::marker::Model;
 
@@ -35,6 +35,10 @@ impl<G: Guard> Model for Guards<G> {
     ghost view = { λ guards. kept guards.seats.items guards.active.items };
 
     ghost invariant = { λ guards. AreKept (guards_in guards.seats.items guards.active.items) (vec_capacity guards.active) };
+}
+
+impl<G: Guard> Bench for Guards<G> {
+    ghost guards = { λ guards. guards.guards };
 }
 
 /// Takes a number out of the order of loading.

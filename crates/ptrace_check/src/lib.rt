@@ -6,9 +6,7 @@ mod access;
 mod answer;
 mod guards;
 mod seat;
-mod start;
 
 pub use access::may_access;
 pub use answer::{LoadAnswer, TeachAnswer, UnloadAnswer};
 pub use guards::Guards;
-pub use start::{Bench, FromScenario};

@@ -9,8 +9,8 @@ ghost use Rattle.scenario_runner.specs.Ends.{EndsAsDrill};
 ghost use Rattle.scenario_runner.specs.Written.{IsWritten, WritesDrill};
 
 use cs_outside::{Guard, Sink};
-use cs_types::{OutOfMemory, Room, Scenario, Step};
-use ptrace_check::{FromScenario, Guards};
+use cs_types::{FromScenario, OutOfMemory, Room, Scenario, Step};
+use ptrace_check::Guards;
 use room_drill::{generate, summary};
 use scenario_input::{Status, play};
 use std::alloc::Global;

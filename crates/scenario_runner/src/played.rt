@@ -12,8 +12,8 @@ ghost use Rattle.scenario_runner.specs.Ends.{IsBadGuard, EndsAsReplay, EndsAsRac
 ghost use Rattle.scenario_runner.specs.Written.{WritesOutput, WritesReplay, MayWriteRace};
 
 use cs_outside::{Gate, Guard, Sink, Source};
-use cs_types::{Room, Scenario, Step};
-use ptrace_check::{FromScenario, Guards};
+use cs_types::{FromScenario, Room, Scenario, Step};
+use ptrace_check::Guards;
 use room_report::output;
 use scenario_input::{Status, Stop, play, read_scenario, taught};
 use std::alloc::Global;

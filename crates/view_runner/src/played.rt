@@ -10,8 +10,8 @@ ghost use Rattle.view_runner.specs.Ends.{EndsAsTold};
 ghost use Rattle.view_runner.specs.Written.{MayWriteTold};
 
 use cs_outside::{Guard, Sink, Source};
-use cs_types::{Room, Step};
-use ptrace_check::{FromScenario, Guards};
+use cs_types::{FromScenario, Room, Step};
+use ptrace_check::Guards;
 use run_summary::{RunSummary, summarized_run};
 use scenario_input::Status;
 use scenario_runner::opened;

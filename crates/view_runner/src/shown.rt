@@ -9,8 +9,8 @@ ghost use Rattle.scenario_runner.specs.Written.{IsWritten};
 ghost use Rattle.view_runner.specs.Written.{IsShown, IsFormWritten, MayWriteForm, EndsInForm};
 
 use cs_outside::{Guard, Sink, Source};
-use cs_types::{Room, Step};
-use ptrace_check::{FromScenario, Guards};
+use cs_types::{FromScenario, Room, Step};
+use ptrace_check::Guards;
 use run_picture::picture;
 use run_segments::{RunSegments, recorded_run};
 use scenario_input::Status;

@@ -25,7 +25,7 @@ returns g c = record {
         next_pid = pid i;
         next_cookie = c.in_ok-refs.ensures.next i;
         intervals = [];
-        guards = c.requires.guards i;
+        guards = c.requires.on_bench i;
       }) (c.in_ok-core.ensures.core i) (c.in_ok-core.ensures.tasks i);
   sound =
       let specs = c.args.scenario.now.tasks in

@@ -1,22 +1,18 @@
 //! How a machine is started. What plays a scenario asks this alone, and stands on no machine.
 
 ghost use Rattle.std.specs.Prelude.{IfOk};
-ghost use Rattle.ptrace_check.specs.Guards.{Guarded};
-ghost use Rattle.ptrace_check.specs.Opened.{MayStart, HasStarted};
+ghost use Rattle.cs_types.specs.Guards.{GuardList};
+ghost use Rattle.cs_types.specs.Opened.{MayStart, HasStarted};
 
-use crate::guards::Guards;
-use cs_outside::Guard;
-use cs_types::{OutOfMemory, Room, Scenario};
+use crate::memory::OutOfMemory;
+use crate::room::Room;
+use crate::scenario::Scenario;
 use std::alloc::Global;
 
 /// The guards that a machine is started with, whatever their type. `Guards` is the one kind of them.
 pub trait Bench {
     /// These guards as clauses see them.
-    ghost guarded: { Self → Guarded };
-}
-
-impl<G: Guard> Bench for Guards<G> {
-    ghost guarded = { λ guards. guards };
+    ghost guards: { Self → GuardList };
 }
 
 /// A machine that can be started on a scenario, with guards of this type.
@@ -26,6 +22,6 @@ pub trait FromScenario<B: Bench>: Room {
     /// scenario has steps, and for those of the end, and no later call takes any. The core has 1 to 16
     /// siblings.
     fn from_scenario(alloc: Global, scenario: &Scenario, guards: B) -> Result<Self, OutOfMemory>
-        requires { MayStart scenario.now (B.guarded guards) }
-        ensures { IfOk result (λ room. HasStarted scenario.now (B.guarded guards) (Self.opening room) (Self.history room) (Self.spare room)) };
+        requires { MayStart scenario.now (B.guards guards) }
+        ensures { IfOk result (λ room. HasStarted scenario.now (B.guards guards) (Self.opening room) (Self.history room) (Self.spare room)) };
 }
