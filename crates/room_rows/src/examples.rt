@@ -1,10 +1,8 @@
 //! Worked examples of core scheduling: from the text to the entries and the report, and what the machine
 //! shows at the end.
 
-ghost use Rattle.std.specs.Prelude.{◌≡◌, ◌+◌, ◌*◌, ◌≤◌, [], length};
 ghost use Rattle.cs_types.specs.Scenario.{IsPlayable};
 
-use crate::commands::{expect_text, joined, only, sink_of};
 use crate::moves::{
     HOTPLUG, LAST_TASK_STOLEN, LEAVES_WITH_QUEUE, REFUSED_MOVES, SAME_POLICY, STEAL,
 };
@@ -13,12 +11,12 @@ use crate::scripts::{
     STALE_PICK, Script, THREE_SHARES, TIE_OF_LEADS, TWO_SHARES,
 };
 use cs_outside::PairGuard;
-use cs_types::{Actor, Cookie, Cpu, Entry, Event, Kind, Pid, Reply, Room, Scenario};
+use cs_types::{Actor, Cookie, Cpu, Entry, Event, Kind, Pid, Reply, Room};
 use plain_room::PlainRoom;
 use room_report::{output, report};
-use scenario_input::taught;
+use row_inputs::{joined, only, report_of, sink_of};
+use row_runs::{opened, replayed};
 use scenario_runner::{Status, play};
-use scenario_text::read;
 use std::process::Abort;
 
 /// The earlier deadline goes first, a deadline task forks none, and a sibling that runs idle has no task
@@ -242,31 +240,17 @@ fn output_of<R: AllocGlobal + Abort>(rt: &R, script: &Script) -> Vec<u8> {
 fn examples_are_played(rt: HostRuntime) {
     for script in &EXAMPLES {
         let output = output_of(&rt, script);
-        expect_text(&rt, script.text.as_bytes(), Status::Done, &output);
+        let (status, sink) = replayed(&rt, script.text.as_bytes()).expect(&rt, "room");
+        assert!(rt; status == Status::Done);
+        assert!(rt; sink.bytes() == output.as_slice());
     }
-}
-
-/// The scenario of this text, and the machine of it before its first step. It has no guards.
-pub fn opened<R: AllocGlobal + Abort>(rt: &R, text: &str) -> (Scenario, PlainRoom<PairGuard>)
-    ensures playable { IsPlayable result.0 }
-    ensures scenario { result.1.opening.scenario ≡ result.0 }
-    ensures empty { result.1.steps ≡ [] }
-    ensures spare { length result.0.steps + result.0.siblings * result.0.siblings ≤ result.1.spare }
-{
-    let scenario = read(rt.alloc(), text.as_bytes()).expect(rt, "a scenario");
-    let list = Vec::<PairGuard>::new(rt.alloc());
-    let guards = taught(rt.alloc(), list, scenario.teaches.items())
-        .ok()
-        .expect(rt, "room");
-    let room = PlainRoom::start(rt.alloc(), &scenario, guards).expect(rt, "room");
-    (scenario, room)
 }
 
 /// The machine of a script after all its steps, before the entries of the end. It has no guards.
 pub fn played<R: AllocGlobal + Abort>(rt: &R, script: Script) -> PlainRoom<PairGuard>
     ensures { IsPlayable result.opening.scenario }
 {
-    let (scenario, mut room) = opened(rt, script.text);
+    let (scenario, mut room) = opened(rt.alloc(), script.text).expect(rt, "a scenario");
     play(&mut room, scenario.steps.items());
     room
 }
@@ -274,10 +258,10 @@ pub fn played<R: AllocGlobal + Abort>(rt: &R, script: Script) -> PlainRoom<PairG
 /// Expects the output of the first example, in pieces of 7 bytes at most, and a part of its report. The second
 /// line of the report needs two pieces, and the other sink fails at the second of these.
 fn expect_texts<R: AllocGlobal + Abort, M: Room>(rt: &R, room: M) {
-    let mut sink = sink_of(rt, 7, Vec::new(rt.alloc()));
+    let mut sink = sink_of(rt.alloc(), 7, Vec::new(rt.alloc())).expect(rt, "room");
     output(&room, &mut sink).expect(rt, "a sink that takes all");
     assert!(rt; sink.bytes() == output_of(rt, &FORCED_IDLE).as_slice());
-    let mut sink = sink_of(rt, 7, only(rt, 3));
+    let mut sink = sink_of(rt.alloc(), 7, only(rt.alloc(), 3).expect(rt, "room")).expect(rt, "room");
     assert!(rt; report(&room, &mut sink).is_err());
     assert!(rt; sink.bytes() == b"report\nclock 1".as_slice());
 }

@@ -1,16 +1,9 @@
-//! The tests of the product, over public calls alone, with values typed by hand, those of drills as
-//! `checks/reference/drill.py` draws them: what no clause says. That is that calls succeed where there is
-//! memory, worked examples from their text to their output, the texts of lines, and faults in mid-stream.
-//! They stand together, since a crate with tests is proved twice.
+//! Worked rows: scenarios with their entries, their report and their views, worked out by hand. The command writes
+//! them, the machine shows them, a drill's summary tells them, and both machines make the same of them. So they show
+//! that the definitions come to what a reader expects, which no clause can say. Values of drills are those that
+//! `checks/reference/drill.py` draws. It is tests alone, as each crate `WORD_rows`: what they hand in stands in
+//! `row_inputs`, and the runs that they look at in `row_runs`.
 #![tactic(auto)]
-
-/// The report of these lines, which stand between its first and its last.
-#[cfg(test)]
-macro_rules! report_of {
-    ($($line:literal),+ $(,)?) => {
-        concat!("report\n", $($line, "\n",)+ "done\n")
-    };
-}
 
 /// The script of this many siblings, of these limits, of these tasks, of these steps, each with its
 /// reply, of the picks of the end, where it makes some, each with its sibling, and of the lines of this
@@ -36,48 +29,18 @@ macro_rules! script {
                 $($step, ": ", $reply, "\n",)*
                 $($("end resched ", $last, ": ", $pick, "\n",)+)?
             ),
-            report: report_of!($($line),+),
+            report: row_inputs::report_of!($($line),+),
         }
     };
 }
 
 #[cfg(test)]
-mod commands;
-#[cfg(test)]
-mod devices;
-#[cfg(test)]
 mod drills;
 #[cfg(test)]
-mod drops;
-#[cfg(test)]
 mod examples;
-#[cfg(test)]
-mod guards;
-#[cfg(test)]
-mod host;
-#[cfg(test)]
-mod lines;
 #[cfg(test)]
 mod machines;
 #[cfg(test)]
 mod moves;
 #[cfg(test)]
-mod offers;
-#[cfg(test)]
-mod parts;
-#[cfg(test)]
-mod passes;
-#[cfg(test)]
-mod queues;
-#[cfg(test)]
-mod races;
-#[cfg(test)]
-mod scenarios;
-#[cfg(test)]
 mod scripts;
-#[cfg(test)]
-mod strangers;
-#[cfg(test)]
-mod views;
-#[cfg(test)]
-mod written;

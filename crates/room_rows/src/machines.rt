@@ -5,7 +5,6 @@ ghost use Rattle.std.specs.Prelude.{◌≡◌, ◌+◌, ◌*◌, [], length};
 ghost use Rattle.cs_types.specs.Scenario.{IsPlayable};
 
 use crate::examples::EXAMPLES;
-use crate::guards::{GROUP, WORKED, four};
 use core_state::CoreState;
 use cs_outside::PairGuard;
 use cs_types::{CpuView, Pid, Room, Scenario};
@@ -13,7 +12,8 @@ use memory_outside::MemSink;
 use plain_room::PlainRoom;
 use room_drill::{generate, summary};
 use room_report::output;
-use scenario_input::taught;
+use row_inputs::{GROUP, WORKED};
+use scenario_input::{guards, taught};
 use scenario_runner::play;
 use scenario_text::read;
 use std::process::Abort;
@@ -82,14 +82,16 @@ fn expect_agreement<R: AllocGlobal + Abort>(rt: &R, scenario: &Scenario)
     requires { IsPlayable scenario.now }
 {
     let alloc = rt.alloc();
-    let guards = taught(alloc, four(rt), scenario.teaches.items())
+    let four = guards(rt).expect(rt, "room");
+    let bench = taught(alloc, four, scenario.teaches.items())
         .ok()
         .expect(rt, "room");
-    let plain = PlainRoom::<PairGuard>::start(alloc, scenario, guards).expect(rt, "room");
-    let guards = taught(alloc, four(rt), scenario.teaches.items())
+    let plain = PlainRoom::<PairGuard>::start(alloc, scenario, bench).expect(rt, "room");
+    let four = guards(rt).expect(rt, "room");
+    let bench = taught(alloc, four, scenario.teaches.items())
         .ok()
         .expect(rt, "room");
-    let fast = CoreState::<PairGuard>::start(alloc, scenario, guards).expect(rt, "room");
+    let fast = CoreState::<PairGuard>::start(alloc, scenario, bench).expect(rt, "room");
     expect_same_runs(rt, scenario, plain, fast);
 }
 

@@ -1,2 +1,0 @@
-mod NoCookies
-mod TwoPasses

@@ -1,6 +1,0 @@
-use Rattle.std.proofs.Common.{◌≡◌}
-use Rattle.room_rows.proofs.NoCookies.{HaveNoCookie}
-use Rattle.room_rows.proofs.parts.three_tasks.Given as goal
-
-abbrev pub invariant-loop-spec : goal.invariant-loop-spec
-invariant-loop-spec g l = HaveNoCookie l.table.tasks × (l.table.limit ≡ 3)

@@ -1,0 +1,41 @@
+//! Texts of scenarios that more than one crate of tests plays.
+
+/// Two tasks of one priority, and a higher one that preempts the first.
+pub const INPUT: &str = "coresched 1
+siblings 2
+limits 8 8 65536
+task 1 1 1 0 fifo:10 1000 1000 1000 1000 1000 1000 0 1 1
+task 2 2 2 0 fifo:10 1000 1000 1000 1000 1000 1000 0 1 1
+task 3 3 3 0 fifo:20 1000 1000 1000 1000 1000 1000 0 1 1
+step c0 wake 1
+step c0 wake 2
+step s0 turn
+step c0 wake 3
+step s0 turn
+step s0 block
+end
+";
+
+/// Two tasks of one user. The first guard refuses that user its own. Line 6 is the teach line.
+pub const WORKED: &str = concat!(
+    "coresched 1\nsiblings 2\nlimits 8 8 65536\n",
+    "task 1 1 1 0 fair:0 1000 1000 1000 1000 1000 1000 0 1 1\n",
+    "task 2 2 2 0 fair:0 1000 1000 1000 1000 1000 1000 0 1 1\n",
+    "teach 0 1000 1000\n",
+    "step c0 prctl 1 2 2 0 0\nstep c0 load 0\nstep c0 load 0\nstep c0 load 1\n",
+    "step c0 prctl 1 2 2 0 0\nstep c0 prctl 1 2 1 0 0\nstep c0 unload 0\n",
+    "step c0 prctl 1 2 2 0 0\nstep c0 unload 0\nstep c0 load 7\nend\n",
+);
+
+/// Root with the capability, and a process group of two tasks of two other users. A guard refuses it the
+/// first of these.
+pub const GROUP: &str = concat!(
+    "coresched 1\nsiblings 2\nlimits 8 8 65536\n",
+    "task 1 1 1 0 fair:0 0 0 0 0 0 0 1 1 1\n",
+    "task 2 2 2 0 fair:0 1000 1000 1000 1000 1000 1000 0 1 1\n",
+    "task 3 3 2 0 fair:0 1001 1001 1001 1001 1001 1001 0 1 1\n",
+    "teach 1 0 1000\n",
+    "step c0 load 0\nstep c0 prctl 1 1 3 2 0\nstep c0 unload 0\n",
+    "step c0 load 1\nstep c0 prctl 1 1 3 2 0\nstep c0 unload 1\n",
+    "step c0 load 2\nstep c0 prctl 1 0 3 0 4096\nend\n",
+);

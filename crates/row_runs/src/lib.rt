@@ -1,0 +1,9 @@
+//! Runs that the crates of tests look at: the command of the program, over devices in memory, and the plain machine
+//! of a text. It has no test of its own, and none of its calls stops a test: each answers what it came to.
+#![tactic(auto)]
+
+mod machine;
+mod program;
+
+pub use machine::opened;
+pub use program::{replayed, run_over_trees};

@@ -1,0 +1,27 @@
+//! The plain machine of a text.
+
+ghost use Rattle.std.specs.Prelude.{◌≡◌, ◌+◌, ◌*◌, ◌≤◌, [], length, IfSome};
+ghost use Rattle.cs_types.specs.Scenario.{IsPlayable};
+
+use cs_outside::PairGuard;
+use cs_types::Scenario;
+use plain_room::PlainRoom;
+use scenario_input::taught;
+use scenario_text::read;
+use std::alloc::Global;
+
+/// The scenario of this text, and the machine of it before its first step. It has no guards. There is none of a text
+/// that is no scenario's, of one that teaches a guard, and without memory.
+pub fn opened(alloc: Global, text: &str) -> Option<(Scenario, PlainRoom<PairGuard>)>
+    ensures playable { IfSome result (λ opened. IsPlayable opened.0) }
+    ensures scenario { IfSome result (λ opened. opened.1.opening.scenario ≡ opened.0) }
+    ensures empty { IfSome result (λ opened. opened.1.steps ≡ []) }
+    ensures spare { IfSome result (λ opened.
+        length opened.0.steps + opened.0.siblings * opened.0.siblings ≤ opened.1.spare) }
+{
+    let scenario = read(alloc, text.as_bytes()).ok()?;
+    let list = Vec::<PairGuard>::new(alloc);
+    let guards = taught(alloc, list, scenario.teaches.items()).ok()?;
+    let room = PlainRoom::start(alloc, &scenario, guards).ok()?;
+    Some((scenario, room))
+}

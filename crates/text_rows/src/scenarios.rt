@@ -1,0 +1,785 @@
+//! Texts of scenarios: one that is read, texts that are no scenario's, one for each rule of the grammar with
+//! its first bad line and kind, and the limit of steps on both sides.
+
+use cs_types::{Scenario, TaskSpec};
+use row_inputs::{INPUT, joined};
+use row_runs::replayed;
+use scenario_runner::Status;
+use scenario_text::{BadKind, ReadFault, read};
+use std::process::Abort;
+use std::sync::Wait;
+use std::thread::Threads;
+
+/// How many tasks and how many steps the scenario of a text has. The name says which text it is.
+fn counts_of<R: AllocGlobal + Abort>(rt: &R, text: &[u8], name: &str) -> (usize, usize) {
+    let scenario = read(rt.alloc(), text).expect(rt, name);
+    (scenario.tasks.items().len(), scenario.steps.items().len())
+}
+
+// What is written to the items of a list stays in it.
+#[test]
+fn reads_a_scenario(rt: HostRuntime) {
+    let mut scenario = read(rt.alloc(), INPUT.as_bytes()).expect(&rt, "a scenario");
+    assert!(rt;
+        matches!(
+            &scenario,
+            Scenario {
+                siblings: 2,
+                task_limit: 8,
+                cookie_limit: 8,
+                user_top: 65536,
+                ..
+            }
+        )
+    );
+    assert!(rt; (scenario.tasks.items().len(), scenario.steps.items().len()) == (3, 6));
+    scenario.tasks.items_mut().reverse();
+    assert!(rt;
+        matches!(
+            scenario.tasks.items().first(),
+            Some(TaskSpec { pid: 3, .. })
+        )
+    );
+}
+
+/// A head and one task.
+const HEAD: &str =
+    "coresched 1\nsiblings 2\nlimits 8 8 65536\ntask 1 1 1 0 fifo:10 0 0 0 0 0 0 0 1 1\n";
+
+/// A rule, the first bad line of a text that breaks it alone, what is wrong with that line, and the text.
+type Refused = (&'static str, u32, BadKind, &'static str);
+
+/// Texts that are no scenario's.
+const REFUSED_TEXTS: [Refused; 15] = [
+    ("some line", 1, BadKind::Cut, ""),
+    ("a whole first line", 1, BadKind::Cut, "coresched 1"),
+    (
+        "the version",
+        1,
+        BadKind::Shape,
+        "coresched 2\nsiblings 2\nlimits 8 8 65536\nend\n",
+    ),
+    (
+        "the first line's case",
+        1,
+        BadKind::Shape,
+        "Coresched 1\nsiblings 2\nlimits 8 8 65536\nend\n",
+    ),
+    (
+        "the second line",
+        2,
+        BadKind::Shape,
+        "coresched 1\nlimits 8 8 65536\nend\n",
+    ),
+    (
+        "the least number of siblings",
+        2,
+        BadKind::Number,
+        "coresched 1\nsiblings 0\nlimits 8 8 65536\nend\n",
+    ),
+    (
+        "the greatest number of siblings",
+        2,
+        BadKind::Number,
+        "coresched 1\nsiblings 9\nlimits 8 8 65536\nend\n",
+    ),
+    (
+        "no leading 0 of a number of siblings",
+        2,
+        BadKind::Number,
+        "coresched 1\nsiblings 02\nlimits 4 4 65536\nend\n",
+    ),
+    (
+        "the third line",
+        3,
+        BadKind::Shape,
+        "coresched 1\nsiblings 2\nend\n",
+    ),
+    (
+        "the least limit",
+        3,
+        BadKind::Number,
+        "coresched 1\nsiblings 2\nlimits 0 8 65536\nend\n",
+    ),
+    (
+        "the greatest limit",
+        3,
+        BadKind::Number,
+        "coresched 1\nsiblings 2\nlimits 8 257 65536\nend\n",
+    ),
+    (
+        "the least top",
+        3,
+        BadKind::Number,
+        "coresched 1\nsiblings 2\nlimits 8 8 8191\nend\n",
+    ),
+    (
+        "the greatest top",
+        3,
+        BadKind::Number,
+        "coresched 1\nsiblings 2\nlimits 8 8 9223372036854775808\nend\n",
+    ),
+    (
+        "the limit of tasks",
+        5,
+        BadKind::Full,
+        "coresched 1\nsiblings 2\nlimits 1 8 65536\ntask 1 1 1 0 fifo:10 0 0 0 0 0 0 0 1 1\ntask 2 2 2 0 fifo:10 0 0 0 0 0 0 0 1 1\nend\n",
+    ),
+    (
+        "the first of two bad lines",
+        2,
+        BadKind::Number,
+        "coresched 1\nsiblings 9\nlimit\nend\n",
+    ),
+];
+
+/// The same, behind the head and the task, whose lines are four, with steps.
+const REFUSED_STEPS: [Refused; 55] = [
+    ("a last line feed", 5, BadKind::Cut, "end"),
+    ("an end", 5, BadKind::Cut, ""),
+    ("an end behind a step", 6, BadKind::Cut, "step s0 turn\n"),
+    (
+        "nothing after the end",
+        6,
+        BadKind::After,
+        "end\nstep s0 turn\n",
+    ),
+    ("no line after the end", 6, BadKind::After, "end\n\n"),
+    (
+        "no part of a line after the end",
+        6,
+        BadKind::After,
+        "end\nx",
+    ),
+    ("one end", 6, BadKind::After, "end\nend\n"),
+    ("one space", 5, BadKind::Shape, "step  s0 turn\nend\n"),
+    (
+        "no space at the end",
+        5,
+        BadKind::Shape,
+        "step s0 turn \nend\n",
+    ),
+    (
+        "no space at the start",
+        5,
+        BadKind::Shape,
+        " step s0 turn\nend\n",
+    ),
+    (
+        "no empty word in a number's place",
+        5,
+        BadKind::Shape,
+        "step c0 wake \nend\n",
+    ),
+    ("no blank line", 5, BadKind::Shape, "\nend\n"),
+    ("a known word", 5, BadKind::Shape, "pause\nend\n"),
+    ("no word more", 5, BadKind::Shape, "step s0 turn 1\nend\n"),
+    ("an event", 5, BadKind::Shape, "step s0\nend\n"),
+    ("no leading 0", 5, BadKind::Number, "step c0 wake 01\nend\n"),
+    ("no sign", 5, BadKind::Number, "step c0 wake +1\nend\n"),
+    ("digits", 5, BadKind::Number, "step c0 wake one\nend\n"),
+    (
+        "the greatest pid of a step",
+        5,
+        BadKind::Number,
+        "step c0 wake 1000000\nend\n",
+    ),
+    ("the callers", 5, BadKind::Number, "step c8 wake 1\nend\n"),
+    (
+        "a caller's number",
+        5,
+        BadKind::Number,
+        "step c wake 1\nend\n",
+    ),
+    (
+        "a sibling's number",
+        5,
+        BadKind::Number,
+        "step s turn\nend\n",
+    ),
+    (
+        "an actor's letter",
+        5,
+        BadKind::Shape,
+        "step x0 turn\nend\n",
+    ),
+    (
+        "a sibling's own event",
+        5,
+        BadKind::Shape,
+        "step c0 turn\nend\n",
+    ),
+    (
+        "a caller's event",
+        5,
+        BadKind::Shape,
+        "step s0 wake 1\nend\n",
+    ),
+    (
+        "the form before a number",
+        5,
+        BadKind::Shape,
+        "step s9 wake 1\nend\n",
+    ),
+    (
+        "an actor's sibling",
+        5,
+        BadKind::Number,
+        "step s2 turn\nend\n",
+    ),
+    (
+        "the greatest command",
+        5,
+        BadKind::Number,
+        "step c0 prctl 1 4294967296 0 0 0\nend\n",
+    ),
+    (
+        "the greatest target",
+        5,
+        BadKind::Number,
+        "step c0 prctl 1 2 2147483648 0 0\nend\n",
+    ),
+    (
+        "the least target",
+        5,
+        BadKind::Number,
+        "step c0 prctl 1 2 -2147483649 0 0\nend\n",
+    ),
+    (
+        "no sign of a target 0",
+        5,
+        BadKind::Number,
+        "step c0 prctl 1 2 -0 0 0\nend\n",
+    ),
+    (
+        "a sign before digits",
+        5,
+        BadKind::Number,
+        "step c0 prctl 1 2 - 0 0\nend\n",
+    ),
+    (
+        "no leading 0 behind a sign",
+        5,
+        BadKind::Number,
+        "step c0 prctl 1 2 -01 0 0\nend\n",
+    ),
+    (
+        "no sign of a scope",
+        5,
+        BadKind::Number,
+        "step c0 prctl 1 2 1 -1 0\nend\n",
+    ),
+    (
+        "the greatest scope",
+        5,
+        BadKind::Number,
+        "step c0 prctl 1 1 0 4294967296 0\nend\n",
+    ),
+    (
+        "the greatest address",
+        5,
+        BadKind::Number,
+        "step c0 prctl 1 0 0 0 18446744073709551616\nend\n",
+    ),
+    (
+        "five arguments",
+        5,
+        BadKind::Shape,
+        "step c0 prctl 1 1 0 0\nend\n",
+    ),
+    (
+        "a call's own actor",
+        5,
+        BadKind::Shape,
+        "step s0 prctl 1 1 0 0 0\nend\n",
+    ),
+    (
+        "a fork's own actor",
+        5,
+        BadKind::Shape,
+        "step s0 fork 1 thread\nend\n",
+    ),
+    (
+        "an exit's own actor",
+        5,
+        BadKind::Shape,
+        "step c0 exit\nend\n",
+    ),
+    (
+        "a tick's own actor",
+        5,
+        BadKind::Shape,
+        "step c0 tick\nend\n",
+    ),
+    (
+        "an advance's own actor",
+        5,
+        BadKind::Shape,
+        "step s0 advance 1\nend\n",
+    ),
+    (
+        "the least advance",
+        5,
+        BadKind::Number,
+        "step c0 advance 0\nend\n",
+    ),
+    (
+        "the greatest advance",
+        5,
+        BadKind::Number,
+        "step c0 advance 1000000001\nend\n",
+    ),
+    (
+        "what a child is",
+        5,
+        BadKind::Shape,
+        "step c0 fork 1 task\nend\n",
+    ),
+    (
+        "what a child is before its parent's pid",
+        5,
+        BadKind::Shape,
+        "step c0 fork 0 task\nend\n",
+    ),
+    (
+        "the least pid of a fork",
+        5,
+        BadKind::Number,
+        "step c0 fork 0 thread\nend\n",
+    ),
+    (
+        "a schedule's own actor",
+        5,
+        BadKind::Shape,
+        "step c0 resched\nend\n",
+    ),
+    (
+        "a policy of a change",
+        5,
+        BadKind::Shape,
+        "step c0 setsched 1\nend\n",
+    ),
+    (
+        "a known policy of a change",
+        5,
+        BadKind::Shape,
+        "step c0 setsched 0 nice:1\nend\n",
+    ),
+    (
+        "the greatest priority of a change",
+        5,
+        BadKind::Number,
+        "step c0 setsched 1 fifo:100\nend\n",
+    ),
+    (
+        "the least pid of a change",
+        5,
+        BadKind::Number,
+        "step c0 setsched 0 stop\nend\n",
+    ),
+    (
+        "a change's own actor",
+        5,
+        BadKind::Shape,
+        "step s0 setsched 1 stop\nend\n",
+    ),
+    (
+        "a sibling that leaves",
+        5,
+        BadKind::Number,
+        "step c0 offline 2\nend\n",
+    ),
+    (
+        "a sibling that comes back",
+        5,
+        BadKind::Number,
+        "step c0 online 01\nend\n",
+    ),
+];
+
+/// The same, with tasks.
+const REFUSED_TASKS: [Refused; 31] = [
+    (
+        "the greatest pid of a task",
+        5,
+        BadKind::Number,
+        "task 10000 1 1 0 fifo:10 0 0 0 0 0 0 0 1 1\nend\n",
+    ),
+    (
+        "the least thread group",
+        5,
+        BadKind::Number,
+        "task 2 0 2 0 fifo:10 0 0 0 0 0 0 0 1 1\nend\n",
+    ),
+    (
+        "the greatest thread group",
+        5,
+        BadKind::Number,
+        "task 2 10000 2 0 fifo:10 0 0 0 0 0 0 0 1 1\nend\n",
+    ),
+    (
+        "a task's sibling",
+        5,
+        BadKind::Number,
+        "task 2 2 2 2 fifo:10 0 0 0 0 0 0 0 1 1\nend\n",
+    ),
+    (
+        "the policy",
+        5,
+        BadKind::Shape,
+        "task 2 2 2 0 nice:10 0 0 0 0 0 0 0 1 1\nend\n",
+    ),
+    (
+        "the policy before a number",
+        5,
+        BadKind::Shape,
+        "task 0 2 2 0 nice:10 0 0 0 0 0 0 0 1 1\nend\n",
+    ),
+    (
+        "the stop task's lack of a number",
+        5,
+        BadKind::Shape,
+        "task 2 2 2 0 stop:1 0 0 0 0 0 0 0 1 1\nend\n",
+    ),
+    (
+        "a number of each other policy",
+        5,
+        BadKind::Shape,
+        "task 2 2 2 0 fifo 0 0 0 0 0 0 0 1 1\nend\n",
+    ),
+    (
+        "some number behind the colon",
+        5,
+        BadKind::Number,
+        "task 2 2 2 0 fifo: 0 0 0 0 0 0 0 1 1\nend\n",
+    ),
+    (
+        "one number behind the colon",
+        5,
+        BadKind::Number,
+        "task 2 2 2 0 fifo:1:2 0 0 0 0 0 0 0 1 1\nend\n",
+    ),
+    (
+        "the least relative deadline",
+        5,
+        BadKind::Number,
+        "task 2 2 2 0 dl:0 0 0 0 0 0 0 0 1 1\nend\n",
+    ),
+    (
+        "the greatest relative deadline",
+        5,
+        BadKind::Number,
+        "task 2 2 2 0 dl:1000000001 0 0 0 0 0 0 0 1 1\nend\n",
+    ),
+    (
+        "the least priority",
+        5,
+        BadKind::Number,
+        "task 2 2 2 0 fifo:0 0 0 0 0 0 0 0 1 1\nend\n",
+    ),
+    (
+        "the greatest priority",
+        5,
+        BadKind::Number,
+        "task 2 2 2 0 fifo:100 0 0 0 0 0 0 0 1 1\nend\n",
+    ),
+    (
+        "the least priority of RR",
+        5,
+        BadKind::Number,
+        "task 2 2 2 0 rr:0 0 0 0 0 0 0 0 1 1\nend\n",
+    ),
+    (
+        "the greatest priority of RR",
+        5,
+        BadKind::Number,
+        "task 2 2 2 0 rr:100 0 0 0 0 0 0 0 1 1\nend\n",
+    ),
+    (
+        "no leading 0 of a priority",
+        5,
+        BadKind::Number,
+        "task 2 2 2 0 rr:07 0 0 0 0 0 0 0 1 1\nend\n",
+    ),
+    (
+        "the least nice value",
+        5,
+        BadKind::Number,
+        "task 2 2 2 0 fair:-21 0 0 0 0 0 0 0 1 1\nend\n",
+    ),
+    (
+        "the greatest nice value",
+        5,
+        BadKind::Number,
+        "task 2 2 2 0 fair:20 0 0 0 0 0 0 0 1 1\nend\n",
+    ),
+    (
+        "no sign of a nice value 0",
+        5,
+        BadKind::Number,
+        "task 2 2 2 0 fair:-0 0 0 0 0 0 0 0 1 1\nend\n",
+    ),
+    (
+        "no other sign of a nice value",
+        5,
+        BadKind::Number,
+        "task 2 2 2 0 fair:+5 0 0 0 0 0 0 0 1 1\nend\n",
+    ),
+    (
+        "the greatest id",
+        5,
+        BadKind::Number,
+        "task 2 2 2 0 fifo:10 0 0 0 0 0 65536 0 1 1\nend\n",
+    ),
+    (
+        "a flag",
+        5,
+        BadKind::Number,
+        "task 2 2 2 0 fifo:10 0 0 0 0 0 0 0 1 2\nend\n",
+    ),
+    (
+        "all words of a task",
+        5,
+        BadKind::Shape,
+        "task 2 2 2 0 fifo:10 0 0 0 0 0 0 0 1\nend\n",
+    ),
+    (
+        "no sixteenth word",
+        5,
+        BadKind::Shape,
+        "task 2 2 2 0 fifo:10 0 0 0 0 0 0 0 1 1 0\nend\n",
+    ),
+    (
+        "distinct pids",
+        5,
+        BadKind::Twice,
+        "task 1 1 1 0 fifo:10 0 0 0 0 0 0 0 1 1\nend\n",
+    ),
+    (
+        "distinct pids before a leader",
+        5,
+        BadKind::Twice,
+        "task 1 3 3 0 fifo:10 0 0 0 0 0 0 0 1 1\nend\n",
+    ),
+    (
+        "an earlier leader",
+        5,
+        BadKind::Leader,
+        "task 2 3 3 0 fifo:10 0 0 0 0 0 0 0 1 1\nend\n",
+    ),
+    (
+        "the leader's process group",
+        5,
+        BadKind::Leader,
+        "task 2 1 2 0 fifo:10 0 0 0 0 0 0 0 1 1\nend\n",
+    ),
+    (
+        "a leader of its own group",
+        6,
+        BadKind::Leader,
+        "task 2 1 1 0 fifo:10 0 0 0 0 0 0 0 1 1\ntask 3 2 1 0 fifo:10 0 0 0 0 0 0 0 1 1\nend\n",
+    ),
+    (
+        "tasks before steps",
+        6,
+        BadKind::Shape,
+        "step s0 turn\ntask 2 2 2 0 fifo:10 0 0 0 0 0 0 0 1 1\nend\n",
+    ),
+];
+
+/// The same, with teach lines.
+const REFUSED_TEACHES: [Refused; 11] = [
+    (
+        "the greatest guard",
+        5,
+        BadKind::Number,
+        "teach 16 0 0\nend\n",
+    ),
+    (
+        "the greatest user of a caller",
+        5,
+        BadKind::Number,
+        "teach 0 65536 0\nend\n",
+    ),
+    (
+        "the greatest user of a target",
+        5,
+        BadKind::Number,
+        "teach 0 0 65536\nend\n",
+    ),
+    (
+        "no leading 0 of a guard",
+        5,
+        BadKind::Number,
+        "teach 00 0 0\nend\n",
+    ),
+    ("two users", 5, BadKind::Shape, "teach 0 0\nend\n"),
+    (
+        "tasks before teach lines",
+        6,
+        BadKind::Shape,
+        "teach 0 0 0\ntask 2 2 2 0 stop 0 0 0 0 0 0 0 1 1\nend\n",
+    ),
+    (
+        "teach lines before steps",
+        6,
+        BadKind::Shape,
+        "step s0 turn\nteach 0 0 0\nend\n",
+    ),
+    (
+        "the greatest guard of a load",
+        5,
+        BadKind::Number,
+        "step c0 load 16\nend\n",
+    ),
+    (
+        "a load's own actor",
+        5,
+        BadKind::Shape,
+        "step s0 load 0\nend\n",
+    ),
+    (
+        "the greatest guard of an unload",
+        5,
+        BadKind::Number,
+        "step c0 unload 16\nend\n",
+    ),
+    (
+        "a guard of an unload",
+        5,
+        BadKind::Shape,
+        "step c0 unload\nend\n",
+    ),
+];
+
+/// A tick, and for each argument of the other events the least and the greatest.
+const STEPS: &str = "step c0 load 0
+step c7 load 15
+step c0 unload 0
+step c7 unload 15
+step c7 setsched 999999 fair:-20
+step c0 setsched 1 stop
+step c0 offline 0
+step c7 online 1
+step s1 tick
+step c0 advance 1
+step c7 advance 1000000000
+step c0 prctl 1 0 -2147483648 0 0
+step c7 prctl 999999 4294967295 2147483647 4294967295 18446744073709551615
+step c0 prctl 1 3 -1 2 4096
+step c0 prctl 1 2 0 1 1";
+
+/// A task of each policy, with the least number and the greatest.
+const POLICIES: &str = "task 2 2 2 0 stop 0 0 0 0 0 0 0 1 1
+task 2 2 2 0 dl:1 0 0 0 0 0 0 0 1 1
+task 2 2 2 0 dl:1000000000 0 0 0 0 0 0 0 1 1
+task 2 2 2 0 fifo:1 0 0 0 0 0 0 0 1 1
+task 2 2 2 0 fifo:99 0 0 0 0 0 0 0 1 1
+task 2 2 2 0 rr:1 0 0 0 0 0 0 0 1 1
+task 2 2 2 0 rr:99 0 0 0 0 0 0 0 1 1
+task 2 2 2 0 fair:-20 0 0 0 0 0 0 0 1 1
+task 2 2 2 0 fair:19 0 0 0 0 0 0 0 1 1";
+
+/// How many tasks and how many steps the scenario of the head, one line and an end has.
+fn counts_with<R: AllocGlobal + Abort>(rt: &R, line: &str) -> (usize, usize) {
+    let text = joined(rt.alloc(), &[HEAD, line, "\nend\n"]).expect(rt, "room");
+    counts_of(rt, &text, line)
+}
+
+#[test]
+fn reads_steps(rt: HostRuntime) {
+    for line in STEPS.lines() {
+        assert!(rt; counts_with(&rt, line).1 == 1);
+    }
+}
+
+#[test]
+fn reads_policies(rt: HostRuntime) {
+    for line in POLICIES.lines() {
+        assert!(rt; counts_with(&rt, line).0 == 2);
+    }
+}
+
+/// Expects that the text, which breaks this rule, is refused with this first bad line and what is wrong with it.
+/// The command ends so too, and writes nothing.
+fn expect_bad<R: Threads + Wait + AllocGlobal + Sync + Abort>(
+    rt: &R,
+    rule: &str,
+    text: &[u8],
+    line: u32,
+    kind: BadKind,
+) {
+    assert!(rt;
+        matches!(
+            read(rt.alloc(), text),
+            Err(ReadFault::Bad { line: found, kind: what }) if found == line && what == kind
+        ),
+        "{rule}"
+    );
+    let (status, sink) = replayed(rt, text).expect(rt, "room");
+    assert!(rt; status == Status::BadScenario { line, kind });
+    assert!(rt; sink.bytes() == b"".as_slice());
+}
+
+/// The head, and behind it this text.
+fn text_of<R: AllocGlobal + Abort>(rt: &R, head: &str, rest: &str) -> Vec<u8> {
+    joined(rt.alloc(), &[head, rest]).expect(rt, "room")
+}
+
+/// Expects that each of these texts is refused behind the head.
+fn expect_refused<R: Threads + Wait + AllocGlobal + Sync + Abort>(
+    rt: &R,
+    head: &str,
+    texts: &[Refused],
+) {
+    for (rule, line, kind, rest) in texts {
+        let text = text_of(rt, head, rest);
+        expect_bad(rt, rule, &text, *line, *kind);
+    }
+}
+
+#[test]
+fn refuses_other_texts(rt: HostRuntime) {
+    expect_refused(&rt, "", &REFUSED_TEXTS);
+    expect_refused(&rt, HEAD, &REFUSED_STEPS);
+    expect_refused(&rt, HEAD, &REFUSED_TASKS);
+    expect_refused(&rt, HEAD, &REFUSED_TEACHES);
+}
+
+/// A text of a head, one task and this line so many times.
+fn text_of_lines<R: AllocGlobal + Abort>(rt: &R, line: &str, count: usize) -> Vec<u8> {
+    let lines = line.repeat(rt.alloc(), count).expect(rt, "room");
+    joined(rt.alloc(), &[HEAD, &lines, "end\n"]).expect(rt, "room")
+}
+
+/// A step.
+const STEP: &str = "step s0 turn\n";
+
+/// A teach line.
+const TEACH: &str = "teach 15 0 65535\n";
+
+#[test]
+fn reads_100000_steps(rt: HostRuntime) {
+    let text = text_of_lines(&rt, STEP, 100_000);
+    assert!(rt; counts_of(&rt, &text, "a scenario").1 == 100_000);
+}
+
+// Each teach has the number of its own line: four lines stand before the first.
+#[test]
+fn reads_64_teaches(rt: HostRuntime) {
+    let text = text_of_lines(&rt, TEACH, 64);
+    let scenario = read(rt.alloc(), &text).expect(&rt, "a scenario");
+    let teaches = scenario.teaches.items();
+    assert!(rt; teaches.len() == 64);
+    for place in 0..64 {
+        assert!(rt; teaches[place].line as usize == place + 5);
+    }
+}
+
+#[test]
+fn refuses_a_line_too_many(rt: HostRuntime) {
+    for (line, count, last) in [(STEP, 100_001, 100_005), (TEACH, 65, 69)] {
+        let text = text_of_lines(&rt, line, count);
+        expect_bad(&rt, "the limit of lines", &text, last, BadKind::Full);
+    }
+}
