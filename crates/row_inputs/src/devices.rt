@@ -7,8 +7,8 @@ use memory_outside::{MemSink, MemSource};
 use std::alloc::{AllocError, Global};
 
 /// One call alone, as one that fails. Calls are counted from 1, so with 0 none fails.
-pub fn only(alloc: Global, call: u64) -> Result<Vec<u64>, AllocError> {
-    vec![in alloc; call]
+pub fn only(alloc: Global, call: u64) -> Result<Vec<u64>, OutOfMemory> {
+    Ok(vec![in alloc; call]?)
 }
 
 /// A source of this text, which gives `most` bytes at once, and fails at these calls.
