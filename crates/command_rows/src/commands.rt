@@ -8,7 +8,7 @@ use core_state::CoreState;
 use cs_outside::{NoGate, PairGuard};
 use memory_outside::{MemSink, MemSource};
 use plain_room::PlainRoom;
-use row_inputs::{INPUT, joined, only, sink_of, source_of, words_of};
+use row_inputs::{INPUT, joined, sink_of, source_of, words_of};
 use row_runs::{replayed, run_over_trees};
 use scenario_runner::{Status, drill, replay};
 use scenario_text::BadKind;
@@ -57,10 +57,8 @@ fn expect_run<R: Threads + Wait + AllocGlobal + Sync + Abort>(
 {
     let words = words_of(rt.alloc(), texts).expect(rt, "room");
     let alloc = rt.alloc();
-    let reads = only(alloc, fails.0).expect(rt, "room");
-    let writes = only(alloc, fails.1).expect(rt, "room");
-    let mut source = source_of(alloc, text, most.0, reads).expect(rt, "room");
-    let mut sink = sink_of(alloc, most.1, writes).expect(rt, "room");
+    let mut source = source_of(alloc, text, most.0, &[fails.0]).expect(rt, "room");
+    let mut sink = sink_of(alloc, most.1, &[fails.1]).expect(rt, "room");
     let guards = Vec::<PairGuard>::new(rt.alloc());
     assert!(rt; run_over_trees(rt, &words, &mut source, &mut sink, &NoGate, guards) == wanted);
     assert!(rt; sink.bytes() == output);
@@ -82,10 +80,8 @@ fn expect_replay<R: AllocGlobal + Abort>(
 {
     let words = words_of(rt.alloc(), texts).expect(rt, "room");
     let alloc = rt.alloc();
-    let reads = only(alloc, fails.0).expect(rt, "room");
-    let writes = only(alloc, fails.1).expect(rt, "room");
-    let mut source = source_of(alloc, text, most.0, reads).expect(rt, "room");
-    let mut sink = sink_of(alloc, most.1, writes).expect(rt, "room");
+    let mut source = source_of(alloc, text, most.0, &[fails.0]).expect(rt, "room");
+    let mut sink = sink_of(alloc, most.1, &[fails.1]).expect(rt, "room");
     let guards = Vec::<PairGuard>::new(rt.alloc());
     let status = replay::<PlainRoom<PairGuard>, MemSource, MemSink, PairGuard>(
         rt.alloc(),
@@ -189,7 +185,7 @@ const OTHER_WORDS: [&'static [&'static str]; 15] = [
 /// Expects that the words are not those of `drill` alone, and that nothing is written for them.
 fn expect_no_drill<R: AllocGlobal + Abort>(rt: &R, texts: &[&str]) {
     let words = words_of(rt.alloc(), texts).expect(rt, "room");
-    let mut sink = sink_of(rt.alloc(), 4096, Vec::new(rt.alloc())).expect(rt, "room");
+    let mut sink = sink_of(rt.alloc(), 4096, &[]).expect(rt, "room");
     let status = drill::<CoreState<PairGuard>, MemSink, PairGuard>(rt.alloc(), &words, &mut sink);
     assert!(rt; status == Status::BadWords && sink.calls() == 0);
 }

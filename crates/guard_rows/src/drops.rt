@@ -9,7 +9,7 @@ use crate::strangers::{LongGuard, PoorGuard};
 use core_state::CoreState;
 use cs_outside::{Guard, NoGate};
 use memory_outside::{MemSink, MemSource};
-use row_inputs::{WORKED, only, sink_of, source_of, words_of};
+use row_inputs::{WORKED, sink_of, source_of, words_of};
 use row_runs::run_over_trees;
 use scenario_runner::{GuardKind, Status, replay};
 use scenario_text::BadKind;
@@ -84,10 +84,8 @@ fn expect_end<R: Threads + Wait + AllocGlobal + Sync + Abort, G: Guard + Send>(
 {
     let words = words_of(rt.alloc(), texts).expect(rt, "room");
     let alloc = rt.alloc();
-    let reads = only(alloc, end.read).expect(rt, "room");
-    let writes = only(alloc, end.write).expect(rt, "room");
-    let mut source = source_of(alloc, end.text.as_bytes(), 65_536, reads).expect(rt, "room");
-    let mut sink = sink_of(alloc, 4096, writes).expect(rt, "room");
+    let mut source = source_of(alloc, end.text.as_bytes(), 65_536, &[end.read]).expect(rt, "room");
+    let mut sink = sink_of(alloc, 4096, &[end.write]).expect(rt, "room");
     assert!(rt; run_over_trees(rt, &words, &mut source, &mut sink, &NoGate, guards) == end.status);
 }
 
@@ -122,8 +120,8 @@ fn guards_at_bad_words(rt: HostRuntime) {
     expect_let_go(&rt, &["replay", "race"], &end);
     let drops = counter(&rt);
     let words = words_of(rt.alloc(), &["race"]).expect(&rt, "room");
-    let mut source = source_of(rt.alloc(), end.text.as_bytes(), 65_536, Vec::new(rt.alloc())).expect(&rt, "room");
-    let mut sink = sink_of(rt.alloc(), 4096, Vec::new(rt.alloc())).expect(&rt, "room");
+    let mut source = source_of(rt.alloc(), end.text.as_bytes(), 65_536, &[]).expect(&rt, "room");
+    let mut sink = sink_of(rt.alloc(), 4096, &[]).expect(&rt, "room");
     let guards = two_long(&rt, &drops);
     let status = replay::<CoreState<LongGuard>, MemSource, MemSink, LongGuard>(
         rt.alloc(),
@@ -142,7 +140,7 @@ fn expect_let_go_of_long<R: Threads + Wait + AllocGlobal + Sync + Abort>(rt: &R,
     let text = vec![in rt.alloc(); b'x'; 16_777_217].expect(rt, "room");
     let words = words_of(rt.alloc(), texts).expect(rt, "room");
     let mut source = MemSource::of(text, 65_536, Vec::new(rt.alloc()));
-    let mut sink = sink_of(rt.alloc(), 4096, Vec::new(rt.alloc())).expect(rt, "room");
+    let mut sink = sink_of(rt.alloc(), 4096, &[]).expect(rt, "room");
     let guards = two_long(rt, &drops);
     assert!(rt;
         run_over_trees(rt, &words, &mut source, &mut sink, &NoGate, guards) == Status::TooLong

@@ -36,8 +36,8 @@ fn expect_guarded<R: AllocGlobal + Abort, G: Guard>(
 )
     requires fresh { AreFresh G.pairs G.asked guards.items }
 {
-    let mut source = source_of(rt.alloc(), text, 65_536, Vec::new(rt.alloc())).expect(rt, "room");
-    let mut sink = sink_of(rt.alloc(), 4096, Vec::new(rt.alloc())).expect(rt, "room");
+    let mut source = source_of(rt.alloc(), text, 65_536, &[]).expect(rt, "room");
+    let mut sink = sink_of(rt.alloc(), 4096, &[]).expect(rt, "room");
     let words = words_of(rt.alloc(), &["replay"]).expect(rt, "room");
     let status = replay::<CoreState<G>, MemSource, MemSink, G>(
         rt.alloc(),

@@ -98,7 +98,7 @@ fn expect_done<R: Threads + Wait + AllocGlobal + Sync + Abort>(
 /// The sink of the command of this word, after the host's text.
 fn sink_after<R: Threads + Wait + AllocGlobal + Sync + Abort>(rt: &R, word: &str) -> MemSink {
     let text = text_of_host(rt.alloc()).expect(rt, "room");
-    let mut source = source_of(rt.alloc(), &text, 65_536, Vec::new(rt.alloc())).expect(rt, "room");
+    let mut source = source_of(rt.alloc(), &text, 65_536, &[]).expect(rt, "room");
     let mut sink = MemSink::of(rt.alloc(), 131_072, 131_072, Vec::new(rt.alloc())).expect(
         rt, "room",
     );

@@ -279,7 +279,7 @@ const TURNS: [&str; 3] = ["s0 turn: ", "s0 turn: ", "s0 block: "];
 
 /// Expects the caller's steps in their order in what the machine writes, and the sibling's in theirs.
 fn expect_orders<R: AllocGlobal + Abort, M: Room>(rt: &R, room: &M) {
-    let mut sink = sink_of(rt.alloc(), 4096, Vec::new(rt.alloc())).expect(rt, "room");
+    let mut sink = sink_of(rt.alloc(), 4096, &[]).expect(rt, "room");
     output(room, &mut sink).expect(rt, "a sink that takes all");
     let text = str::from_utf8(sink.bytes()).expect(rt, "a text");
     assert!(rt; expect_lines(rt, text, "c0", &WAKES).is_none());

@@ -58,8 +58,8 @@ fn raced<R: Threads + Wait + AllocGlobal + Sync + Abort, G: Gate + Sync>(
     text: &str,
     gate: &G,
 ) -> MemSink {
-    let mut source = source_of(rt.alloc(), text.as_bytes(), 4096, Vec::new(rt.alloc())).expect(rt, "room");
-    let mut sink = sink_of(rt.alloc(), 4096, Vec::new(rt.alloc())).expect(rt, "room");
+    let mut source = source_of(rt.alloc(), text.as_bytes(), 4096, &[]).expect(rt, "room");
+    let mut sink = sink_of(rt.alloc(), 4096, &[]).expect(rt, "room");
     let words = words_of(rt.alloc(), &["race"]).expect(rt, "room");
     let guards = Vec::<PairGuard>::new(rt.alloc());
     assert!(rt; run_over_trees(rt, &words, &mut source, &mut sink, gate, guards) == Status::Done);

@@ -8,7 +8,7 @@ use cs_outside::{NoGate, PairGuard};
 use cs_types::Room;
 use memory_outside::MemSink;
 use room_drill::{generate, summary};
-use row_inputs::{joined, only, sink_of, source_of, words_of};
+use row_inputs::{joined, sink_of, source_of, words_of};
 use row_runs::run_over_trees;
 use scenario_runner::{Status, drill};
 use scenario_writer::scenario_text;
@@ -149,7 +149,7 @@ fn expect_summary<R: AllocGlobal + Abort, M: Room>(rt: &R, mut room: M, lines: &
     let siblings = u64::from(room.siblings());
     assert!(rt; siblings * siblings <= room.spare());
     room.drain();
-    let mut sink = sink_of(rt.alloc(), 7, Vec::new(rt.alloc())).expect(rt, "room");
+    let mut sink = sink_of(rt.alloc(), 7, &[]).expect(rt, "room");
     summary(7, &room, &mut sink).expect(rt, "a sink that takes all");
     let wanted = joined(rt.alloc(), &[lines, report]).expect(rt, "room");
     assert!(rt; sink.bytes() == wanted.as_slice());
@@ -184,7 +184,7 @@ fn summaries_of_a_machine(rt: HostRuntime) {
 
 /// Expects a part of the summary of the machine: the sink fails at its second line.
 fn expect_cut_summary<R: AllocGlobal + Abort, M: Room>(rt: &R, room: M) {
-    let mut sink = sink_of(rt.alloc(), 4096, only(rt.alloc(), 2).expect(rt, "room")).expect(rt, "room");
+    let mut sink = sink_of(rt.alloc(), 4096, &[2]).expect(rt, "room");
     assert!(rt; summary(4_294_967_295, &room, &mut sink).is_err());
     assert!(rt; sink.bytes() == b"drill 4294967295 steps 20000 entries 10\n".as_slice());
 }
@@ -211,8 +211,8 @@ fn drilled<R: Threads + Wait + AllocGlobal + Sync + Abort>(
 ) -> MemSink {
     let words = words_of(rt.alloc(), &["drill", seed]).expect(rt, "room");
     let guards = Vec::<PairGuard>::new(rt.alloc());
-    let mut source = source_of(rt.alloc(), b"coresched 1\n", 4096, Vec::new(rt.alloc())).expect(rt, "room");
-    let fails = only(rt.alloc(), fails).expect(rt, "room");
+    let mut source = source_of(rt.alloc(), b"coresched 1\n", 4096, &[]).expect(rt, "room");
+    let fails = vec![in rt.alloc(); fails].expect(rt, "room");
     let mut sink = MemSink::of(rt.alloc(), 16_384, 4096, fails).expect(rt, "room");
     assert!(rt; run_over_trees(rt, &words, &mut source, &mut sink, &NoGate, guards) == wanted);
     assert!(rt; source.calls() == 0);

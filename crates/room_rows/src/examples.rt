@@ -14,7 +14,7 @@ use cs_outside::PairGuard;
 use cs_types::{Actor, Cookie, Cpu, Entry, Event, Kind, Pid, Reply, Room};
 use plain_room::PlainRoom;
 use room_report::{output, report};
-use row_inputs::{joined, only, report_of, sink_of};
+use row_inputs::{joined, report_of, sink_of};
 use row_runs::{opened, replayed};
 use scenario_runner::{Status, play};
 use std::process::Abort;
@@ -258,10 +258,10 @@ pub fn played<R: AllocGlobal + Abort>(rt: &R, script: Script) -> PlainRoom<PairG
 /// Expects the output of the first example, in pieces of 7 bytes at most, and a part of its report. The second
 /// line of the report needs two pieces, and the other sink fails at the second of these.
 fn expect_texts<R: AllocGlobal + Abort, M: Room>(rt: &R, room: M) {
-    let mut sink = sink_of(rt.alloc(), 7, Vec::new(rt.alloc())).expect(rt, "room");
+    let mut sink = sink_of(rt.alloc(), 7, &[]).expect(rt, "room");
     output(&room, &mut sink).expect(rt, "a sink that takes all");
     assert!(rt; sink.bytes() == output_of(rt, &FORCED_IDLE).as_slice());
-    let mut sink = sink_of(rt.alloc(), 7, only(rt.alloc(), 3).expect(rt, "room")).expect(rt, "room");
+    let mut sink = sink_of(rt.alloc(), 7, &[3]).expect(rt, "room");
     assert!(rt; report(&room, &mut sink).is_err());
     assert!(rt; sink.bytes() == b"report\nclock 1".as_slice());
 }

@@ -7,6 +7,6 @@ mod reports;
 mod scenarios;
 mod texts;
 
-pub use devices::{only, sink_of, source_of};
+pub use devices::{sink_of, source_of};
 pub use scenarios::{GROUP, INPUT, WORKED};
 pub use texts::{joined, words_of};

@@ -36,8 +36,8 @@ pub fn replayed<T: Threads + Wait + AllocGlobal + Sync>(
 ) -> Result<(Status, MemSink), OutOfMemory> {
     let alloc = rt.alloc();
     let words = words_of(alloc, &["replay"])?;
-    let mut source = source_of(alloc, text, 65_536, Vec::new(alloc))?;
-    let mut sink = sink_of(alloc, 4096, Vec::new(alloc))?;
+    let mut source = source_of(alloc, text, 65_536, &[])?;
+    let mut sink = sink_of(alloc, 4096, &[])?;
     let guards = Vec::<PairGuard>::new(alloc);
     let status = run_over_trees(rt, &words, &mut source, &mut sink, &NoGate, guards);
     Ok((status, sink))

@@ -3,7 +3,7 @@
 use cs_types::{Actor, Ask, Entry, Errno, Event, Kind, Pick, Policy, Reply};
 use memory_outside::MemSink;
 use room_report::entry_text;
-use row_inputs::{only, sink_of};
+use row_inputs::sink_of;
 use scenario_text::Line;
 use std::process::Abort;
 
@@ -322,7 +322,7 @@ const LINES: [(Entry, &str); 48] = [
 #[test]
 fn lines_of_entries(rt: HostRuntime) {
     for (entry, line) in &LINES {
-        let mut sink = sink_of(rt.alloc(), 128, Vec::new(rt.alloc())).expect(&rt, "room");
+        let mut sink = sink_of(rt.alloc(), 128, &[]).expect(&rt, "room");
         entry_text(entry, &mut Line::new(), &mut sink).expect(&rt, line);
         assert!(rt; sink.bytes() == line.as_bytes() && sink.calls() == 1);
     }
@@ -361,7 +361,7 @@ fn expect_written(
 
 #[test]
 fn fails_where_the_sink_does(rt: HostRuntime) {
-    let mut sink = sink_of(rt.alloc(), 7, only(rt.alloc(), 2).expect(&rt, "room")).expect(&rt, "room");
+    let mut sink = sink_of(rt.alloc(), 7, &[2]).expect(&rt, "room");
     let entry = caller!(0, Event::Wake(1), Reply::Woken(0));
     expect_written(&rt, &mut sink, &entry, false, "c0 wake");
     expect_written(&rt, &mut sink, &entry, true, "c0 wakec0 wake 1: Woken 0\n");

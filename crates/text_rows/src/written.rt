@@ -2,7 +2,7 @@
 //! form, and of one that no text is read as. They go line by line, and are read back.
 
 use cs_types::{Actor, Ask, Creds, Event, List, Policy, Scenario, Step, TaskSpec, Teach};
-use row_inputs::{joined, only, sink_of};
+use row_inputs::{joined, sink_of};
 use scenario_text::read;
 use scenario_writer::scenario_text;
 use std::process::Abort;
@@ -307,7 +307,7 @@ fn expect_written<R: AllocGlobal + Abort>(
     is_whole: bool,
     lines: &[&str],
 ) {
-    let mut sink = sink_of(rt.alloc(), 4096, only(rt.alloc(), fails).expect(rt, "room")).expect(rt, "room");
+    let mut sink = sink_of(rt.alloc(), 4096, &[fails]).expect(rt, "room");
     assert!(rt; scenario_text(scenario, &mut sink).is_ok() == is_whole);
     assert!(rt; sink.bytes() == joined(rt.alloc(), lines).expect(rt, "room").as_slice());
     assert!(rt; !is_whole || sink.calls() == lines.len() as u64);

@@ -19,8 +19,8 @@ fn expect_view<R: AllocGlobal + Abort>(
     output: &str,
 ) {
     let words = words_of(rt.alloc(), words).expect(rt, "room");
-    let mut source = source_of(rt.alloc(), text.as_bytes(), 4096, Vec::new(rt.alloc())).expect(rt, "room");
-    let mut sink = sink_of(rt.alloc(), 4096, Vec::new(rt.alloc())).expect(rt, "room");
+    let mut source = source_of(rt.alloc(), text.as_bytes(), 4096, &[]).expect(rt, "room");
+    let mut sink = sink_of(rt.alloc(), 4096, &[]).expect(rt, "room");
     let guards = Vec::<PairGuard>::new(rt.alloc());
     let status = run::<CoreState<PairGuard>, MemSource, MemSink, PairGuard>(
         rt.alloc(),
