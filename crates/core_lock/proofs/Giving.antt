@@ -89,6 +89,7 @@ module _ {R : Type 0} (opening : R → Opening) (spare : R → ℕ) where
           fair = its;
           legal = no_entry (opening key.room);
           own = refl;
+          first_steps = record { each = λ number lt. (0, refl); no_other = λ actor other. refl };
         }
 
     -- one list more is given

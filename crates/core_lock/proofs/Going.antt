@@ -17,7 +17,7 @@ use Rattle.core_lock.specs.declared.view.Progress.{Progress}
 use Rattle.core_lock.specs.declared.view.Beginning.{Beginning}
 use Rattle.core_lock.specs.declared.view.View.{View}
 use Rattle.core_lock.specs.declared.view.View.TheVariants.{Idle}
-use Rattle.core_lock.specs.Lists.{list_at, actor_of, events_first}
+use Rattle.core_lock.specs.Lists.{list_at, actor_of, events_first, HasFirstSteps}
 use Rattle.core_lock.specs.Board.{HasTurn, HasMade, entry_with}
 use Rattle.core_lock.specs.Passes.{Lock, PassState, IsPass, MakesNext, HasOwn, lock_of, pass_of}
 use Rattle.core_lock.proofs.Entries.{is_actor-same, events_by-own, events_first-more, actor_at-is}
@@ -55,6 +55,7 @@ module _ {R : Type 0} (opening : R → Opening) (history : R → History) (spare
         fits = p.fits;
         fair = p.fair;
         legal = did.legal;
+        first_steps = did.first_steps;
         own =
             events_by-own (actor_of steps) (history room) entry (ap (λ (a : Actor). is_actor a (actor_of steps)) by ∙ is_actor-same (actor_of steps))
             ∙ ap (λ (es : List Event). es ++ made.event ∷ []) before
@@ -83,6 +84,10 @@ module _ {R : Type 0} (opening : R → Opening) (spare : R → ℕ) where
   pub legal_is : (table : TableId) (me : Me (Option R) (View R)) (steps : List Step) (count : ℕ) (p : IsPass opening me steps count) (now : PassState) →
       now ≡ record { lock = lock_of opening spare table p.begun; progress = p.has } → IsLegal now.lock.opening now.progress.seen
   legal_is table me steps count p now is = subst (λ (s : PassState). IsLegal s.lock.opening s.progress.seen) (sym is) p.legal
+
+  pub first_steps_is : (table : TableId) (me : Me (Option R) (View R)) (steps : List Step) (count : ℕ) (p : IsPass opening me steps count) (now : PassState) →
+      now ≡ record { lock = lock_of opening spare table p.begun; progress = p.has } → HasFirstSteps now.lock.lists now.progress.seen
+  first_steps_is table me steps count p now is = subst (λ (s : PassState). HasFirstSteps s.lock.lists s.progress.seen) (sym is) p.first_steps
 
   -- the next step of a pass keeps its limits
   pub is_event : (me : Me (Option R) (View R)) (steps : List Step) (count : ℕ) (p : IsPass opening me steps count) (made : Step) →

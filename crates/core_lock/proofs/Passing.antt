@@ -1,5 +1,5 @@
 -- Passing: making a step in the room and passing the turn on keeps the rule.
-use Rattle.std.proofs.Common.{◌≡◌, ℕ, ◌+◌, ◌%◌, ◌^◌, Bool, false, List, [], ◌∷◌, ◌++◌, length, set, get_or, refl, sym, ap, ◌∙◌, subst, arith, Option, Some, length-append}
+use Rattle.std.proofs.Common.{◌≡◌, ℕ, ◌+◌, ◌%◌, ◌^◌, ◌<◌, Bool, false, List, [], ◌∷◌, ◌++◌, length, set, get_or, refl, sym, ap, ◌∙◌, subst, arith, Option, Some, length-append}
 use Rattle.std.specs.Prelude.{slice_get}
 use Rattle.std.proofs.lemmas.List.Elements.{All-get_or}
 use mathlib.Core.Logic.{dite}
@@ -20,7 +20,7 @@ use Rattle.core_lock.specs.declared.view.Progress.{Progress}
 use Rattle.core_lock.specs.declared.view.Beginning.{Beginning}
 use Rattle.core_lock.specs.declared.view.View.{View}
 use Rattle.core_lock.specs.declared.view.View.TheVariants.{Idle, Holding}
-use Rattle.core_lock.specs.Lists.{list_at, actor_of, IsList, events_first}
+use Rattle.core_lock.specs.Lists.{list_at, actor_of, HasNoList, IsList, events_first, HasFirstSteps}
 use Rattle.core_lock.specs.Board.{entry_with, Books, IsOwned, IsHolding, Knows, HasSlot, IsKept, passed}
 use Rattle.core_lock.proofs.Keeping.{put, put_here, put_else, seats_stay, knows_stays, parts_or}
 use Rattle.core_lock.proofs.Entries.{is_actor-same, events_by-own, events_by-else, events_first-more, actor_at-is, prefix-more}
@@ -41,6 +41,49 @@ module _ {R : Type 0} (opening : R → Opening) (history : R → History) (spare
   abbrev after_step : Books → ℕ → ℕ → Entry → Books
   after_step b number count entry = record b { past = b.past ++ entry ∷ []; out = false; made = put b.made number (count + 1) }
 
+  -- what the entries are after a step: of the actor of each list, and of any other
+  module _ (s : State (Option R) (View R)) (k : Rule s) (seat : ℕ) (has : Progress) (made : Step) (reply : Reply)
+      (mine : IsOwned begun.lists k.books seat 1 has) (next : slice_get (list_at begun.lists has.number) has.made ≡ Some made) where
+    made_by : made.actor ≡ actor_of (list_at begun.lists has.number)
+    made_by =
+        let fair : IsList (opening begun.room).scenario.siblings (list_at begun.lists has.number) =
+        All-get_or (IsList (opening begun.room).scenario.siblings) begun.lists has.number [] mine.number k.lists.each in
+        actor_at-is (list_at begun.lists has.number) has.made made fair.of_one next
+
+    own_after : (number : ℕ) → number < length begun.lists →
+        events_by (actor_of (list_at begun.lists number)) (k.books.past ++ entry_with made reply ∷ [])
+        ≡ events_first (put k.books.made has.number (has.made + 1) number) (list_at begun.lists number)
+    own_after number lt =
+        let b = k.books in
+        let n = has.number in
+        let entry = entry_with made reply in
+        let steps = list_at begun.lists n in
+        dite (ℕ_discrete number n)
+        (λ e. subst (λ (m : ℕ). events_by (actor_of (list_at begun.lists m)) (b.past ++ entry ∷ []) ≡ events_first (put b.made n (has.made + 1) m) (list_at begun.lists m)) (sym e)
+        (events_by-own (actor_of steps) b.past entry (ap (λ (a : Actor). is_actor a (actor_of steps)) made_by ∙ is_actor-same (actor_of steps))
+        ∙ ap (λ (es : List Event). es ++ made.event ∷ []) (k.own n mine.number ∙ ap (λ (m : ℕ). events_first m steps) mine.made)
+        ∙ sym (events_first-more has.made steps made next)
+        ∙ ap (λ (m : ℕ). events_first m steps) (sym (put_here b.made n (has.made + 1)))))
+        (λ ne.
+        events_by-else (actor_of (list_at begun.lists number)) b.past entry
+        (ap (λ (a : Actor). is_actor a (actor_of (list_at begun.lists number))) made_by ∙ k.lists.apart n number mine.number lt (λ e. ne (sym e)))
+        ∙ k.own number lt
+        ∙ ap (λ (m : ℕ). events_first m (list_at begun.lists number)) (sym (put_else b.made n (has.made + 1) number ne)))
+
+    none_after : (actor : Actor) → HasNoList begun.lists actor → events_by actor (k.books.past ++ entry_with made reply ∷ []) ≡ []
+    none_after actor other =
+        events_by-else actor k.books.past (entry_with made reply) (ap (λ (a : Actor). is_actor a actor) made_by ∙ other has.number mine.number) ∙ k.no_other actor other
+
+  -- the room's entries are then the first steps of each list, and nothing else
+  first_after : (s : State (Option R) (View R)) (k : Rule s) (seat : ℕ) (has : Progress) (ticket : ℕ) (room : R) (made : Step) (reply : Reply) →
+      IsHolding begun.lists k.books seat has ticket → IsAfter opening history spare begun has room made reply → HasFirstSteps begun.lists (history room)
+  first_after s k seat has ticket room made reply holds after =
+      subst (HasFirstSteps begun.lists) (sym (after.tells ∙ ap (λ (h : History). h ++ entry_with made reply ∷ []) holds.whole))
+      (record {
+        each = λ number lt. (put k.books.made has.number (has.made + 1) number, own_after s k seat has made reply holds.owned after.is_next number lt);
+        no_other = none_after s k seat has made reply holds.owned after.is_next;
+      })
+
   pass_kept : (s : State (Option R) (View R)) (k : Rule s) (seat : ℕ) (has : Progress) (ticket : ℕ) (room : R) (made : Step) (reply : Reply) →
       IsHolding begun.lists k.books seat has ticket → IsAfter opening history spare begun has room made reply →
       Rule record {
@@ -58,9 +101,6 @@ module _ {R : Type 0} (opening : R → Opening) (history : R → History) (spare
       let longer : length (b.past ++ entry ∷ []) ≡ length b.past + 1 = length-append b.past (entry ∷ []) in
       let ahead = k.ahead holds.out in
       let small : (length b.past + 1) % 18446744073709551616 ≡ length (b.past ++ entry ∷ []) = omega (arith, ahead, k.enough, k.fits, longer) in
-      let steps = list_at begun.lists n in
-      let fair : IsList (opening begun.room).scenario.siblings steps = All-get_or (IsList (opening begun.room).scenario.siblings) begun.lists n [] mine.number k.lists.each in
-      let by : made.actor ≡ actor_of steps = actor_at-is steps has.made made fair.of_one after.is_next in
       let empty : s.homes ≡ none ∷ [] = subst (λ (o : Bool). HasSlot opening history spare begun b.past o s.homes) holds.out k.slot in
       let new : Progress = record has { made = has.made + 1; seen = history room } in
       record {
@@ -82,19 +122,8 @@ module _ {R : Type 0} (opening : R → Opening) (history : R → History) (spare
         fits = k.fits;
         lists = k.lists;
         as_many = k.as_many;
-        own = λ number lt. dite (ℕ_discrete number n)
-            (λ e. subst (λ (m : ℕ). events_by (actor_of (list_at begun.lists m)) now.past ≡ events_first (now.made m) (list_at begun.lists m)) (sym e)
-            (events_by-own (actor_of steps) b.past entry (ap (λ (a : Actor). is_actor a (actor_of steps)) by ∙ is_actor-same (actor_of steps))
-            ∙ ap (λ (es : List Event). es ++ made.event ∷ []) (k.own n mine.number ∙ ap (λ (m : ℕ). events_first m steps) mine.made)
-            ∙ sym (events_first-more has.made steps made after.is_next)
-            ∙ ap (λ (m : ℕ). events_first m steps) (sym (put_here b.made n (has.made + 1)))))
-            (λ ne.
-            events_by-else (actor_of (list_at begun.lists number)) b.past entry
-            (ap (λ (a : Actor). is_actor a (actor_of (list_at begun.lists number))) by ∙ k.lists.apart n number mine.number lt (λ e. ne (sym e)))
-            ∙ k.own number lt
-            ∙ ap (λ (m : ℕ). events_first m (list_at begun.lists number)) (sym (put_else b.made n (has.made + 1) number ne)));
-        no_other = λ actor other.
-            events_by-else actor b.past entry (ap (λ (a : Actor). is_actor a actor) by ∙ other n mine.number) ∙ k.no_other actor other;
+        own = own_after s k seat has made reply mine after.is_next;
+        no_other = none_after s k seat has made reply mine after.is_next;
         views = seats_stay (Knows begun now) s.views seat (Idle begun (new ∷ [])) (
           refl,
           Rattle.std.proofs.lemmas.List.Elements.All-cons (IsOwned begun.lists now seat 0) new [] (record {
@@ -148,8 +177,10 @@ module _ {R : Type 0} (opening : R → Opening) (history : R → History) (spare
             (pass_kept s k seat has ticket room made reply holds after),
         λ begun' has' ticket' room' e.
             let parts = ap (λ (m : Me (Option R) (View R)). parts_or (begun, has, 0) m.0) e in
-            let carried = ap (λ (m : Me (Option R) (View R)). room_or room m.1) e in
-            λ i. (Idle (parts i).0 (record (parts i).1 { made = (parts i).1.made + 1; seen = history (carried i) } ∷ []), []),
+            let carried = ap (λ (m : Me (Option R) (View R)). room_or room m.1) e in (
+              λ i. (Idle (parts i).0 (record (parts i).1 { made = (parts i).1.made + 1; seen = history (carried i) } ∷ []), []),
+              subst (λ (z : Beginning R × R). HasFirstSteps z.0.lists (history z.1)) (λ i. ((parts i).0, carried i)) (first_after s k seat has ticket room made reply holds after),
+            ),
       )
     where
       room_or : R → List (ℕ × Option R) → R

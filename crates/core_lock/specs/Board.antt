@@ -16,7 +16,7 @@ use Rattle.core_lock.specs.declared.view.Progress.{Progress}
 use Rattle.core_lock.specs.declared.view.Beginning.{Beginning}
 use Rattle.core_lock.specs.declared.view.View.{View}
 use Rattle.core_lock.specs.declared.view.View.TheVariants.{Gone, Idle, Waiting, Holding}
-use Rattle.core_lock.specs.Lists.{list_at, actor_of, HasNoList, AreLists, events_first}
+use Rattle.core_lock.specs.Lists.{list_at, actor_of, HasNoList, AreLists, events_first, HasFirstSteps}
 
 -- the entry of a step with its reply
 abbrev pub entry_with : Step → Reply → Entry
@@ -125,6 +125,7 @@ module _ {R : Type 0} (opening : R → Opening) where
   pub record HasMade (begun : Beginning R) (has : Progress) (past : History) (made : Step) (reply : Reply) (now : Me (Option R) (View R)) : Type 0 where
     pub me : now ≡ (Idle begun (record has { made = has.made + 1; seen = past ++ entry_with made reply ∷ [] } ∷ []), [])
     pub legal : IsLegal (opening begun.room) (past ++ entry_with made reply ∷ [])
+    pub first_steps : HasFirstSteps begun.lists (past ++ entry_with made reply ∷ [])
 
 module _ {R : Type 0} where
   -- the view of the first seat: it has all lists
@@ -135,11 +136,11 @@ module _ {R : Type 0} where
   abbrev pub drawn : TableStep (Option R) → Me (Option R) (View R) → ℕ → Me (Option R) (View R) → Type 0
   drawn at before found now = (begun : Beginning R) (has : Progress) → before ≡ (Idle begun (has ∷ []), []) → now ≡ (Waiting begun has found, [])
 
-  -- the turn was passed on: the room is given back, and its history is seen
+  -- the turn was passed on: the room is given back, and its history is seen, which has the first steps of each list alone
   abbrev pub passed : (R → History) → TableStep (Option R) → Me (Option R) (View R) → ℕ → Me (Option R) (View R) → Type 0
   passed history at before found now = (begun : Beginning R) (has : Progress) (ticket : ℕ) (room : R) →
       before ≡ (Holding begun has ticket, (0, Some room) ∷ []) →
-      now ≡ (Idle begun (record has { made = has.made + 1; seen = history room } ∷ []), [])
+      (now ≡ (Idle begun (record has { made = has.made + 1; seen = history room } ∷ []), [])) × HasFirstSteps begun.lists (history room)
 
   -- the length was read, and is noted
   abbrev pub noted : TableStep (Option R) → Me (Option R) (View R) → ℕ → Me (Option R) (View R) → Type 0

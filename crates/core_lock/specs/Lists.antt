@@ -5,6 +5,7 @@ use Rattle.cs_types.specs.declared.event.Actor.TheVariants.{End}
 use Rattle.cs_types.specs.declared.event.Event.{Event}
 use Rattle.cs_types.specs.declared.event.Step.{Step}
 use Rattle.cs_types.specs.Scenario.{IsEvent, is_actor}
+use Rattle.cs_types.specs.History.{History, events_by}
 
 -- the list of a number
 abbrev pub list_at : List (List Step) → ℕ → List Step
@@ -36,6 +37,12 @@ pub record AreLists (siblings : ℕ) (lists : List (List Step)) : Type 0 where
 -- the events of the first steps of a list, in the list's order
 abbrev pub events_first : ℕ → List Step → List Event
 events_first count steps = map (λ made. made.event) (take count steps)
+
+-- A history has of each list the first steps, each once and in order, and nothing else.
+pub record HasFirstSteps (lists : List (List Step)) (history : History) : Type 0 where
+  pub each : (number : ℕ) → number < length lists →
+      (count : ℕ) × (events_by (actor_of (list_at lists number)) history ≡ events_first count (list_at lists number))
+  pub no_other : (actor : Actor) → HasNoList lists actor → events_by actor history ≡ []
 
 -- how many steps the lists have in all
 abbrev pub steps_in : List (List Step) → ℕ

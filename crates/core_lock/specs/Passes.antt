@@ -14,7 +14,7 @@ use Rattle.core_lock.specs.declared.view.Progress.{Progress}
 use Rattle.core_lock.specs.declared.view.Beginning.{Beginning}
 use Rattle.core_lock.specs.declared.view.View.{View}
 use Rattle.core_lock.specs.declared.view.View.TheVariants.{Idle}
-use Rattle.core_lock.specs.Lists.{list_at, actor_of, IsList, events_first}
+use Rattle.core_lock.specs.Lists.{list_at, actor_of, IsList, events_first, HasFirstSteps}
 use Rattle.core_lock.specs.Board.{fresh, entry_with}
 
 -- Which lock it is, what its room began with, how many entries the room could take then, and the lists of its passes.
@@ -96,3 +96,4 @@ module _ {R : Type 0} (opening : R → Opening) where
     pub fair : IsList (opening begun.room).scenario.siblings steps
     pub legal : IsLegal (opening begun.room) has.seen
     pub own : events_by (actor_of steps) has.seen ≡ events_first count steps
+    pub first_steps : HasFirstSteps begun.lists has.seen

@@ -3,7 +3,7 @@
 ghost use Rattle.std.specs.Prelude.{◌≡◌, ◌+◌, ◌<◌, ◌≤◌, ℕ, [], length, map, All, Contains, IfOk, IfErr};
 ghost use mathlib.Core.List.{IsPrefix};
 ghost use Rattle.cs_types.specs.History.{IsLegal, events_by};
-ghost use Rattle.core_lock.specs.Lists.{AreLists, HasNoList, steps_in};
+ghost use Rattle.core_lock.specs.Lists.{AreLists, HasNoList, HasFirstSteps, steps_in};
 ghost use Rattle.core_lock.specs.Passes.{IsSpent, MakesNext, HasOwn, fresh_passes};
 
 use crate::board::{Board, Read, SERVING};
@@ -88,6 +88,9 @@ impl<R: Room> Shared<R> {
 
         // The actor's entries are the steps that the pass made, each once and in order.
         ensures own { HasOwn pass.new pass.new.progress.seen }
+
+        // Of each list what the pass sees has the first steps, each once and in order, and nothing else.
+        ensures first_steps { HasFirstSteps pass.new.lock.lists pass.new.progress.seen }
 
         ensures spent { IfErr result (λ _. IsSpent pass.old × (pass.new ≡ pass.old)) }
     {

@@ -6,6 +6,7 @@ use Rattle.cs_types.specs.Room.{Opening}
 use Rattle.cs_types.specs.Scenario.{IsEvent}
 use Rattle.cs_types.specs.History.{History, IsLegal}
 use Rattle.core_lock.specs.declared.view.View.TheVariants.{Idle}
+use Rattle.core_lock.specs.Lists.{HasFirstSteps}
 use Rattle.core_lock.specs.Board.{IsKept, passed, entry_with}
 use Rattle.core_lock.proofs.Passing.{passes_on}
 use Rattle.core_lock.proofs.Hands.{takes_room, same_room, put_room, after_turn}
@@ -74,7 +75,8 @@ returns-clause-made g c begun has ticket room turn =
     let opens = made.opening ∙ (ap g.R.Room.opening same ∙ turn.opens) in
     record {
       me =
-          c.fetch_add.ensures.2 begun (record has { seen = g.R.Room.history room }) ticket c.apply-reply.new.self now
+          (c.fetch_add.ensures.2 begun (record has { seen = g.R.Room.history room }) ticket c.apply-reply.new.self now).0
           ∙ ap (λ (h : History). let m : Me _ _ = (Idle begun (record has { made = has.made + 1; seen = h } ∷ []), []) in m) told;
       legal = subst (λ (z : Opening × History). IsLegal z.0 z.1) (λ i. (opens i, told i)) (g.met.R.Room.legal c.apply-reply.new.self);
+      first_steps = subst (HasFirstSteps begun.lists) told (c.fetch_add.ensures.2 begun (record has { seen = g.R.Room.history room }) ticket c.apply-reply.new.self now).1;
     }

@@ -3,7 +3,7 @@ use Rattle.std.specs.Prelude.{slice_get}
 use Rattle.core_lock.specs.Lists.{list_at}
 use Rattle.core_lock.specs.Board.{entry_with}
 use Rattle.core_lock.specs.Passes.{PassState, list_of, lock_of, pass_of}
-use Rattle.core_lock.proofs.Going.{state_is, same_table, goes_on, tells_next, own_is, legal_is, is_event, one_more_fits}
+use Rattle.core_lock.proofs.Going.{state_is, same_table, goes_on, tells_next, own_is, legal_is, first_steps_is, is_event, one_more_fits}
 use Rattle.std.proofs.lemmas.Option.{slice_get_within}
 use Rattle.core_lock.proofs.shared.Shared.call.Goals as goal
 
@@ -131,6 +131,25 @@ returns-clause-own g c =
     let now_is = state_is g.R.Room.opening g.R.Room.spare c.make_step-reply.new.seat.table_id c.make_step-reply.new.seat.me after.begun after.has now after.idle refl in
     own_is g.R.Room.opening g.R.Room.spare c.make_step-reply.new.seat.table_id c.make_step-reply.new.seat.me c.pass.inside.steps (c.pass.inside.made + 1) after now now_is
 
+pub returns-clause-first_steps : goal.returns-clause-first_steps
+returns-clause-first_steps g c =
+    let seat = c.pass.inside.seat in
+    let p = c.pass.invariant in
+    let is = state_is g.R.Room.opening g.R.Room.spare seat.table_id seat.me p.begun p.has c.args.pass.now p.idle c.pass.view_is in
+    let next : slice_get (list_at p.begun.lists p.has.number) p.has.made ≡ Some c.in-Some.step =
+    subst (λ (s : PassState). slice_get (list_of s) s.progress.made ≡ Some c.in-Some.step) is (sym c.next_step.ensures ∙ c.in-Some.is)
+    in
+    let drawn = c.draw-ticket.ensures.drawn p.begun p.has p.idle in
+    let turn = c.take_turn.ensures.turn p.begun p.has drawn in
+    let made = c.make_step-reply.ensures.made p.begun p.has c.draw-ticket.result turn.0 turn.1 in
+    let after = goes_on g.R.Room.opening g.R.Room.history g.R.Room.spare seat.me c.take_turn.new.seat.me c.make_step-reply.new.seat.me c.pass.inside.steps c.pass.inside.made
+    c.draw-ticket.result turn.0 c.in-Some.step c.make_step-reply.result p turn.1 next made
+    in
+    let tables = c.make_step-reply.ensures.table ∙ (c.take_turn.ensures.table ∙ c.draw-ticket.ensures.table) in
+    let now = pass_of g.R.Room.opening g.R.Room.spare c.make_step-reply.new.seat.table_id c.make_step-reply.new.seat.me.0 in
+    let now_is = state_is g.R.Room.opening g.R.Room.spare c.make_step-reply.new.seat.table_id c.make_step-reply.new.seat.me after.begun after.has now after.idle refl in
+    first_steps_is g.R.Room.opening g.R.Room.spare c.make_step-reply.new.seat.table_id c.make_step-reply.new.seat.me c.pass.inside.steps (c.pass.inside.made + 1) after now now_is
+
 pub returns-clause-lock : goal.returns-clause-lock
 returns-clause-lock g c =
     let seat = c.pass.inside.seat in
@@ -182,3 +201,10 @@ returns-in_default-clause-own g c =
     let p = c.pass.invariant in
     let is = state_is g.R.Room.opening g.R.Room.spare seat.table_id seat.me p.begun p.has c.args.pass.now p.idle c.pass.view_is in
     own_is g.R.Room.opening g.R.Room.spare seat.table_id seat.me c.pass.inside.steps c.pass.inside.made p c.args.pass.now is
+
+pub returns-in_default-clause-first_steps : goal.returns-in_default-clause-first_steps
+returns-in_default-clause-first_steps g c =
+    let seat = c.pass.inside.seat in
+    let p = c.pass.invariant in
+    let is = state_is g.R.Room.opening g.R.Room.spare seat.table_id seat.me p.begun p.has c.args.pass.now p.idle c.pass.view_is in
+    first_steps_is g.R.Room.opening g.R.Room.spare seat.table_id seat.me c.pass.inside.steps c.pass.inside.made p c.args.pass.now is

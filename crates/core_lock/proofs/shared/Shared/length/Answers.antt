@@ -34,6 +34,7 @@ invariant_of-pass g c =
       fair = p.fair;
       legal = p.legal;
       own = p.own;
+      first_steps = p.first_steps;
     }
 
 pub returns-clause-seen : goal.returns-clause-seen
