@@ -14,5 +14,7 @@ pub record IsScripted (name own : Opening) (history : History) (count : ℕ) (le
   pub named : own ≡ name
   -- what an actor has made, and then what is left to it, are its script
   pub scripts : (actor : Actor) → events_by actor history ++ events_in actor left ≡ script name.scenario actor
+  -- the entries that are made and the steps that are left are as many as the scenario's steps
+  pub counted : length history + length left ≡ length name.scenario.steps
   -- the room can take what is left, and the entries of the end
   pub spare : length left + name.scenario.siblings * name.scenario.siblings ≤ count

@@ -66,6 +66,10 @@ impl<R: Room, N: Named> Scripted<R, N> {
         ensures unchanged { result ≡ Finished → self.new ≡ self.old }
         ensures spare { R.spare self.new + count_made result ≡ R.spare self.old }
 
+        // Room is left for each step that is not made yet, and for the entries of the end.
+        ensures left { length N.opening.scenario.steps + N.opening.scenario.siblings * N.opening.scenario.siblings
+            ≤ length (R.history self.new) + R.spare self.new }
+
         // Whoever has made its whole script keeps it so.
         ensures made { (other : _) → events_by other (R.history self.old) ≡ script N.opening.scenario other →
             events_by other (R.history self.new) ≡ script N.opening.scenario other }
@@ -82,7 +86,7 @@ impl<R: Room, N: Named> Scripted<R, N> {
         }
     }
 
-    /// The room as it is. It can still take the entries of the end.
+    /// The room as it is. It can still take each step that is not made, and the entries of the end.
     pub fn into_room(self) -> R
         ensures room { result ≡ self }
 
@@ -91,6 +95,8 @@ impl<R: Room, N: Named> Scripted<R, N> {
         ensures legal { IsLegal N.opening (R.history result) }
         ensures order { KeepsScripts N.opening.scenario (R.history result) }
         ensures spare { N.opening.scenario.siblings * N.opening.scenario.siblings ≤ R.spare result }
+        ensures left { length N.opening.scenario.steps + N.opening.scenario.siblings * N.opening.scenario.siblings
+            ≤ length (R.history result) + R.spare result }
     {
         let Scripted { room, .. } = self;
         room

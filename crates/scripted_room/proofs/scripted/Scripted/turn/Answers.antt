@@ -1,7 +1,8 @@
-use Rattle.std.proofs.Common.{◌≡◌, ◌∙◌, ◌++◌, ◌∷◌, [], List, length, Some, refl, sym, ap, subst, arith}
+use Rattle.std.proofs.Common.{◌≡◌, ◌∙◌, ◌++◌, ◌∷◌, [], List, length, Some, refl, sym, ap, subst, arith, length-append}
 use Rattle.std.specs.Prelude.{slice_get}
 use Rattle.cs_types.specs.declared.event.Event.{Event}
 use Rattle.cs_types.specs.declared.event.Step.{Step}
+use Rattle.cs_types.specs.declared.reply.Entry.{Entry}
 use Rattle.cs_types.specs.Room.{Opening}
 use Rattle.cs_types.specs.Scenario.{IsEvent, script}
 use Rattle.cs_types.specs.History.{History, IsLegal, events_by, reply_to}
@@ -105,10 +106,12 @@ invariant_of-self g c =
     let scenario = g.N.Named.opening.scenario in
     let history = g.R.Room.history c.self.inside.room in
     let more = scripts_more scenario history c.self.inside.scripts c.next.new.self c.args.actor c.in-Some.event c.apply.result c.self.invariant.scripts c.in-Some.ensures.some in
+    let made : Entry = record { actor = c.args.actor; event = c.in-Some.event; reply = c.apply.result } in
     record {
       playable = c.self.invariant.playable;
       named = c.apply.ensures.opening ∙ c.self.invariant.named;
       scripts = λ a. ap (λ (h : History). events_by a h ++ events_in a c.next.new.self) c.apply.ensures.entry ∙ more a;
+      counted = omega (arith, c.self.invariant.counted, ap (length {A = Entry}) c.apply.ensures.entry, length-append history (made ∷ []), c.in-Some.ensures.count);
       spare = omega (arith, c.self.invariant.spare, c.apply.ensures.spare, c.in-Some.ensures.count);
     }
 
