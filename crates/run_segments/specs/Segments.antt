@@ -1,8 +1,7 @@
 -- Segments: what each sibling did over time. Time passes in advances alone, so what is so before one is so in all of it.
-use Rattle.std.specs.Prelude.{◌≡◌, ℕ, ◌<◌, ◌+◌, ◌==◌, ◌&&◌, not, Bool, true, false, List, [], ◌∷◌, ◌++◌, map, filter, if◌then◌else◌, Option, Some, None}
+use Rattle.std.specs.Prelude.{◌≡◌, ℕ, ◌<◌, ◌+◌, ◌==◌, ◌&&◌, not, Bool, true, false, List, [], ◌∷◌, ◌++◌, map, filter, if◌then◌else◌, Option, Some, None, unwrap_or}
 use Rattle.std.specs.List.{range_with_len, take_while}
-use Rattle.std.specs.Option.{option_map_or}
-use Rattle.cs_types.specs.Room.{Opening, RoomState, running_on, is_online}
+use Rattle.cs_types.specs.Room.{Opening, RoomState, sibling_of, is_online}
 use Rattle.cs_types.specs.History.{History}
 use Rattle.run_times.specs.declared.doing.Doing.{Doing}
 use Rattle.run_times.specs.declared.doing.Doing.TheVariants.{Offline, Runs, Idles, ForcedIdle}
@@ -10,9 +9,9 @@ use Rattle.run_times.specs.Doing.{doing_of, is_pending}
 use Rattle.run_times.specs.Times.{Span, spans_of, total_time}
 use Rattle.run_segments.specs.declared.segments.Segment.{Segment}
 
--- the pid of the task that a sibling runs, 0 where it is offline or runs idle
+-- the pid that a sibling runs, 0 if it is offline or runs idle
 abbrev pub pid_run : RoomState → ℕ → ℕ
-pid_run room cpu = if is_online room cpu then option_map_or (λ task. task.spec.pid) (running_on room cpu) 0 else 0
+pid_run room cpu = if is_online room cpu then unwrap_or (sibling_of room cpu).run 0 else 0
 
 -- whether a sibling does the same
 abbrev pub is_same : Doing → Doing → Bool

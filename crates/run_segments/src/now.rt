@@ -2,7 +2,7 @@
 
 ghost use Rattle.std.specs.Prelude.{◌≡◌, ◌<◌};
 ghost use Rattle.cs_types.specs.Scenario.{IsPlayable};
-ghost use Rattle.cs_types.specs.History.{fold_of};
+ghost use Rattle.cs_types.specs.History.{fold_of, AreEvents};
 ghost use Rattle.run_times.specs.Doing as doing;
 ghost use Rattle.run_segments.specs.Segments as segments;
 ghost use Rattle.run_segments.specs.Kept.{AreMarksOf};
@@ -39,6 +39,7 @@ fn idling<R: Room>(room: &R, cpu: Cpu, queued: &mut Queued) -> Doing
 /// What a sibling does now.
 pub(crate) fn now_of<R: Room>(room: &R, cpu: Cpu, queued: &mut Queued) -> Now
     requires playable { IsPlayable (R.opening room.now).scenario }
+    requires events { AreEvents (R.opening room.now) (R.history room.now) }
     requires cpu { cpu < (R.opening room.now).scenario.siblings }
     requires marks { let opening = R.opening room.now in
         AreMarksOf opening.scenario.siblings (fold_of opening (R.history room.now)) queued.old }

@@ -5,7 +5,7 @@ ghost use Rattle.cs_types.specs.declared.reply.Entry.{Entry};
 ghost use Rattle.cs_types.specs.Scenario.{IsEvent, IsPlayable};
 ghost use Rattle.cs_types.specs.Room.{Opening, RoomState};
 ghost use Rattle.cs_types.specs.declared.event.Event.TheVariants.{Advance};
-ghost use Rattle.cs_types.specs.History.{fold_of};
+ghost use Rattle.cs_types.specs.History.{fold_of, AreEvents};
 ghost use Rattle.run_times.specs.Times.{Span, total_time};
 ghost use Rattle.run_segments.specs.Segments.{segments_of, IsGapless, segments_on};
 ghost use Rattle.run_segments.specs.Kept.{AreMarksOf, AreKept, HasSegmentsOf, IsRecordOf};
@@ -64,6 +64,7 @@ impl Recorder {
     /// Takes in what each sibling does from one moment to another.
     fn keep_each<R: Room>(&mut self, room: &R, from: u64, to: u64) -> Result<(), OutOfMemory>
         requires playable { IsPlayable (R.opening room.now).scenario }
+        requires events { AreEvents (R.opening room.now) (R.history room.now) }
         requires each { length self.old.segments.places ≡ (R.opening room.now).scenario.siblings }
         requires marks { let opening = R.opening room.now in
             AreMarksOf opening.scenario.siblings (fold_of opening (R.history room.now)) self.old.queued }
@@ -93,6 +94,7 @@ impl Recorder {
     /// Takes in an advance by this time, in ns, that is to be made next in the room.
     fn advance<R: Room>(&mut self, room: &R, time: u64) -> Result<(), OutOfMemory>
         requires playable { IsPlayable (R.opening room.now).scenario }
+        requires events { AreEvents (R.opening room.now) (R.history room.now) }
         requires record { IsRecordOf (R.opening room.now) (R.history room.now) self.old.segments self.old.queued }
         requires time { 0 < time }
         ensures { OnOk result ((entry : Entry) → entry.event ≡ Advance time →
@@ -121,6 +123,7 @@ impl Recorder {
     /// Takes in an event that is to be made next in the room.
     pub(crate) fn before<R: Room>(&mut self, room: &R, event: Event) -> Result<(), OutOfMemory>
         requires playable { IsPlayable (R.opening room.now).scenario }
+        requires events { AreEvents (R.opening room.now) (R.history room.now) }
         requires event { IsEvent (R.opening room.now).scenario.siblings event }
         requires record { IsRecordOf (R.opening room.now) (R.history room.now) self.old.segments self.old.queued }
         ensures { OnOk result ((entry : Entry) → entry.event ≡ event →

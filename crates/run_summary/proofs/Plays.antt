@@ -14,21 +14,10 @@ use Rattle.cs_laws.proofs.Histories.{length-history_of}
 use Rattle.exposed_pairs.specs.Pairs.{most_rows}
 use Rattle.run_summary.specs.Summaries.{Summary, ArePartsOf}
 
--- what the events of the history name keeps its limits still
-pub events_more : (opening same : Opening) (past now : History) (entry : Entry) → same ≡ opening → now ≡ past ++ entry ∷ [] →
-    AreEvents opening past → IsEvent opening.scenario.siblings entry.event → AreEvents same now
-events_more opening same past now entry alike one_more events limits =
-    subst (λ (o : Opening). AreEvents o now) (sym alike)
-    (subst (AreEvents opening) (sym one_more) (All-push (λ (e : Entry). IsEvent opening.scenario.siblings e.event) past entry events limits))
-
 -- the history so far is no longer than the steps
 pub length_so_far : (opening : Opening) (steps : List Step) (i : ℕ) (past : History) → i ≤ length steps → past ≡ history_of opening (take i steps) → length past ≡ i
 length_so_far opening steps i past lt so_far =
     ap length so_far ∙ length-history_of opening (take i steps) ∙ length-take-le i steps lt
-
--- an event of the steps keeps its limits in the room as it is
-pub event_in : (opening same : Opening) (event : Event) → same ≡ opening → IsEvent opening.scenario.siblings event → IsEvent same.scenario.siblings event
-event_in opening same event alike limits = subst (λ (o : Opening). IsEvent o.scenario.siblings event) (sym alike) limits
 
 -- the parts go on with it
 pub parts_more : (opening same : Opening) (past now : History) (entry : Entry) (summary : Summary) → same ≡ opening → now ≡ past ++ entry ∷ [] →

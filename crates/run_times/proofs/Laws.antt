@@ -1,9 +1,9 @@
 -- Laws: what the times of every legal history keep.
 use Rattle.std.proofs.Common.{◌≡◌, ℕ, ◌<◌, ◌≤◌, Bool, true, false, cond, List, [], ◌∷◌, ◌++◌, map, length, refl, sym, ap, ◌∙◌, subst, append_assoc, inl, inr, arith, Option, Some, None}
-use Rattle.std.specs.Prelude.{◌⊎◌, All, Contains, IfSome, IsSomeAnd}
+use Rattle.std.specs.Prelude.{is_some, All, Contains, IsSomeAnd}
 use Rattle.std.specs.List.{AllByRecursion, range_with_len}
 use Rattle.std.specs.Option.{option_map, option_and_then, option_to_list}
-use Rattle.std.proofs.lemmas.Bool.{cases_Bool, both_ways, and_from, false_from_ne_true}
+use Rattle.std.proofs.lemmas.Bool.{cases_Bool, both_ways, and_from, and_parts, false_from_ne_true}
 use Rattle.std.proofs.lemmas.List.{append-nil}
 use Rattle.std.proofs.lemmas.List.Elements.{All-map, All-from_recursion, recursion_from_All}
 use Rattle.cs_types.specs.declared.task.Task.{Task}
@@ -17,11 +17,11 @@ use Rattle.cs_types.proofs.Filtered.{Contains-filter, Contains-range}
 use Rattle.cs_laws.proofs.Histories.{moment_of-push}
 use Rattle.cs_laws.proofs.Trust.{settled-moment_of}
 use Rattle.run_times.specs.declared.siblings.SiblingTimes.{SiblingTimes}
-use Rattle.run_times.specs.Doing.{cookie_run, is_pending, some_pending, is_exposed}
+use Rattle.run_times.specs.Doing.{is_busy, is_pending, some_pending, is_exposed}
 use Rattle.run_times.specs.Times.{Span, advance_of, span_of, spans_from, spans_of, total_time}
 use Rattle.run_times.specs.Sums.{sibling_times, did, times_in, times_of}
 use Rattle.run_times.proofs.Below.{some_below}
-use Rattle.run_times.proofs.Exposed.{unexposed}
+use Rattle.run_times.proofs.Exposed.{RunsShared, unexposed}
 use Rattle.run_times.proofs.Spans.{spans_from-append, time_in-le, did-sibling_times}
 
 -- ---- what each sibling did adds up to all time
@@ -51,23 +51,26 @@ times_of-drained opening past now drained = ap (times_in opening.scenario.siblin
 
 -- ---- exposure
 
--- where the trust rule holds, a sibling that is not pending runs a task with the core cookie, or none
-runs_core_cookie : (room : RoomState) (k : ℕ) → IsSettled room → k < length room.siblings → is_pending room k ≡ false →
-    IfSome (cookie_run room k) (λ cookie. Some room.core_cookie ≡ Some cookie)
-runs_core_cookie room k settled below calm = by_online (is_online room k) refl where
-  its : (found : Option Task) → (found ≡ None) ⊎ IsSomeAnd found (λ task. task.cookie ≡ room.core_cookie) →
-      IfSome (option_map (λ (task : Task). task.cookie) found) (λ cookie. Some room.core_cookie ≡ Some cookie)
-  its None either = tt
-  its (Some task) either = elim either [ inl none ↦ absurd cc | inr same ↦ ap Some (sym same) ]
+-- where the trust rule holds, a sibling that is neither idle nor pending runs a task with the core cookie
+runs_core_cookie : (room : RoomState) (k : ℕ) → IsSettled room → k < length room.siblings → is_pending room k ≡ false → is_busy room k ≡ true →
+    RunsShared room (Some room.core_cookie) k
+runs_core_cookie room k settled below calm busy = by_online (and_parts (is_online room k) (is_some (sibling_of room k).run) busy) where
+  its : (on : Bool) (found : Option Task) → on ≡ true → IsSomeAnd found (λ task. task.cookie ≡ room.core_cookie) →
+      (cookie : ℕ) × (cond on (option_map (λ (task : Task). task.cookie) found) None ≡ Some cookie) × (Some room.core_cookie ≡ Some cookie)
+  its false found up same = absurd cc
+  its true None up same = absurd same
+  its true (Some task) up same = (task.cookie, refl, ap Some (sym same))
 
-  by_online : (on : Bool) → is_online room k ≡ on →
-      IfSome (cond on (option_map (λ (task : Task). task.cookie) (running_on room k)) None) (λ cookie. Some room.core_cookie ≡ Some cookie)
-  by_online false off = tt
-  by_online true up =
+  by_online : (is_online room k ≡ true) × (is_some (sibling_of room k).run ≡ true) → RunsShared room (Some room.core_cookie) k
+  by_online parts =
+      let up = parts.0 in
       let quiet : (sibling_of room k).pending ≡ false =
       false_from_ne_true (sibling_of room k).pending (λ raised. both_ways (is_pending room k) calm (and_from (is_online room k) (sibling_of room k).pending up raised)) in
       let held : Contains (online room) k = Contains-filter (is_online room) (range_with_len 0 (length room.siblings)) k (Contains-range 0 (length room.siblings) k (omega arith) (omega (arith, below))) up in
-      its (running_on room k) (elim (settled k held quiet) [ inl none ↦ inl (ap (option_and_then (task_of room)) none) | inr same ↦ inr same ])
+      elim (settled k held quiet) [
+        | inl none ↦ absurd (let wrong : false ≡ true = sym (ap is_some none) ∙ parts.1 in cc)
+        | inr same ↦ its (is_online room k) (running_on room k) up same
+      ]
 
 -- so where tasks with distinct cookies run side by side, some sibling is pending
 pub exposed_is_pending : (room : RoomState) → IsSettled room → is_exposed room ≡ true → some_pending room ≡ true
@@ -77,7 +80,7 @@ exposed_is_pending room settled exposed =
       | inr none ↦
           let each_calm : (k : ℕ) → k < length room.siblings → is_pending room k ≡ false =
           λ k below. false_from_ne_true (is_pending room k) (λ is. both_ways (some_pending room) none (some_below (is_pending room) (length room.siblings) k below is)) in
-          absurd (both_ways (is_exposed room) (unexposed room (Some room.core_cookie) (λ k below. runs_core_cookie room k settled below (each_calm k below))) exposed)
+          absurd (both_ways (is_exposed room) (unexposed room (Some room.core_cookie) (λ k below busy. runs_core_cookie room k settled below (each_calm k below) busy)) exposed)
     ]
 
 abbrev IsCovered : Span → Type 0

@@ -5,3 +5,5 @@ pub mod Spans
 pub mod Summed
 pub mod Laws
 pub mod Clock
+pub mod Busy
+pub mod Events

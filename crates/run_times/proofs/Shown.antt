@@ -109,6 +109,13 @@ shown_cpu moment cpu view shown = go (ltb cpu (length moment.room.siblings)) sho
   go true is = let same : view ≡ its = cc in (ap (λ (v : CpuView). v.online) same, ap (λ (v : CpuView). v.run) same, ap (λ (v : CpuView). v.pending) same)
   go false is = absurd cc
 
+-- the core has it
+pub shown_below : (moment : Moment) (cpu : ℕ) (view : CpuView) → Some view ≡ cpu_view moment cpu → cpu < length moment.room.siblings
+shown_below moment cpu view shown = go (ltb cpu (length moment.room.siblings)) _ refl shown where
+  go : (test : Bool) (its : CpuView) → ltb cpu (length moment.room.siblings) ≡ test → Some view ≡ cond test (Some its) None → cpu < length moment.room.siblings
+  go true its few is = ltb-true cpu (length moment.room.siblings) few
+  go false its past is = absurd cc
+
 -- the task that it runs is that with the pid which it shows
 running_shown : (room : RoomState) (cpu : ℕ) → AreRising room → shown_at room (unwrap_or (sibling_of room cpu).run 0) ≡ option_map (task_view room) (running_on room cpu)
 running_shown room cpu rises = go (sibling_of room cpu).run where

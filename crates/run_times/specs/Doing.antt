@@ -1,12 +1,16 @@
 -- Doing: what is so of the siblings at a moment.
-use Rattle.std.specs.Prelude.{ℕ, Bool, false, ◌==◌, ◌&&◌, not, nat_lt, if◌then◌else◌, List, length, Option, Some, None}
+use Rattle.std.specs.Prelude.{ℕ, Bool, false, is_some, ◌==◌, ◌&&◌, not, nat_lt, if◌then◌else◌, List, length, Option, Some, None}
 use Rattle.std.specs.List.{list_any, range_with_len}
 use Rattle.std.specs.Option.{option_map, option_map_or}
-use Rattle.cs_types.specs.Room.{RoomState, queued_on, sibling_of, running_on, is_online}
+use Rattle.cs_types.specs.Room.{RoomState, task_of, queued_on, sibling_of, running_on, is_online}
 use Rattle.run_times.specs.declared.doing.Doing.{Doing}
 use Rattle.run_times.specs.declared.doing.Doing.TheVariants.{Offline, Runs, Idles, ForcedIdle}
 
--- the cookie of the task that a sibling runs, none where it is offline or runs idle
+-- whether a sibling is online and does not run idle
+abbrev pub is_busy : RoomState → ℕ → Bool
+is_busy room cpu = is_online room cpu && is_some (sibling_of room cpu).run
+
+-- the cookie of the living task that a sibling runs, none if it is offline or runs no such task
 abbrev pub cookie_run : RoomState → ℕ → Option ℕ
 cookie_run room cpu = if is_online room cpu then option_map (λ task. task.cookie) (running_on room cpu) else None
 
@@ -14,15 +18,19 @@ cookie_run room cpu = if is_online room cpu then option_map (λ task. task.cooki
 abbrev pub has_queued : RoomState → ℕ → Bool
 has_queued room cpu = nat_lt 0 (length (queued_on room cpu))
 
+-- the cookie of the living task with this pid, 0 if nobody has it
+abbrev pub cookie_at : RoomState → ℕ → ℕ
+cookie_at room pid = option_map_or (λ task. task.cookie) (task_of room pid) 0
+
 -- what an idle sibling does: it is forced idle where a task is queued on it
 abbrev pub idling : RoomState → ℕ → Doing
 idling room cpu = if has_queued room cpu then ForcedIdle room.core_cookie else Idles
 
--- what a sibling does
+-- what a sibling does: it idles exactly if it is online and runs no pid
 abbrev pub doing_of : RoomState → ℕ → Doing
 doing_of room cpu =
     if is_online room cpu
-    then option_map_or Runs (cookie_run room cpu) (idling room cpu)
+    then option_map_or (λ pid. Runs (cookie_at room pid)) (sibling_of room cpu).run (idling room cpu)
     else Offline
 
 -- whether a sibling is online and has a pending reschedule
@@ -37,12 +45,17 @@ siblings_of room = range_with_len 0 (length room.siblings)
 abbrev pub some_pending : RoomState → Bool
 some_pending room = list_any (is_pending room) (siblings_of room)
 
--- whether two cookies of running tasks are there and differ
-abbrev pub are_distinct : Option ℕ → Option ℕ → Bool
-are_distinct (Some a) (Some b) = not (a == b)
-are_distinct (Some a) None = false
-are_distinct None other = false
+-- whether both cookies of running tasks are there, and are one
+abbrev pub are_one : Option ℕ → Option ℕ → Bool
+are_one (Some a) (Some b) = a == b
+are_one (Some a) None = false
+are_one None other = false
 
--- whether two siblings that are online run tasks with distinct cookies side by side
+-- whether two siblings are online, do not run idle, and do not run living tasks with one cookie
+abbrev pub are_exposed : RoomState → ℕ → ℕ → Bool
+are_exposed room a b = is_busy room a && is_busy room b && not (are_one (cookie_run room a) (cookie_run room b))
+
+-- whether some two siblings are. So the core is exposed exactly if the online siblings that do not run idle do not run living
+-- tasks with one cookie (`RunOneCookie`)
 abbrev pub is_exposed : RoomState → Bool
-is_exposed room = list_any (λ a. list_any (λ b. are_distinct (cookie_run room a) (cookie_run room b)) (siblings_of room)) (siblings_of room)
+is_exposed room = list_any (λ a. list_any (are_exposed room a) (siblings_of room)) (siblings_of room)

@@ -4,7 +4,7 @@ ghost use Rattle.std.specs.Prelude.{◌≡◌};
 ghost use Rattle.std.specs.Option.{option_map};
 ghost use Rattle.cs_types.specs.Scenario.{IsPlayable};
 ghost use Rattle.cs_types.specs.Room as rooms;
-ghost use Rattle.cs_types.specs.History.{fold_of};
+ghost use Rattle.cs_types.specs.History.{fold_of, AreEvents};
 ghost use Rattle.cs_types.specs.View.{task_view};
 ghost use Rattle.run_times.specs.Doing as now;
 
@@ -27,7 +27,7 @@ fn task_of<R: Room>(room: &R, pid: Pid) -> Option<TaskView>
     }
 }
 
-/// The cookie of the task that a sibling runs. `None` where it is offline or runs idle.
+/// The cookie of the living task that a sibling runs. `None` if it is offline or runs no such task.
 pub fn cookie_run<R: Room>(room: &R, cpu: Cpu) -> Option<Cookie>
     requires { IsPlayable (R.opening room.now).scenario }
     ensures { result ≡ now.cookie_run (fold_of (R.opening room.now) (R.history room.now)) cpu }
@@ -59,7 +59,8 @@ fn has_queued<R: Room>(room: &R, cpu: Cpu) -> bool
 
 /// What a sibling does.
 pub(crate) fn doing_of<R: Room>(room: &R, cpu: Cpu) -> Doing
-    requires { IsPlayable (R.opening room.now).scenario }
+    requires playable { IsPlayable (R.opening room.now).scenario }
+    requires events { AreEvents (R.opening room.now) (R.history room.now) }
     ensures { result ≡ now.doing_of (fold_of (R.opening room.now) (R.history room.now)) cpu }
 {
     match room.cpu(cpu) {
@@ -95,9 +96,10 @@ pub(crate) fn some_pending<R: Room>(room: &R) -> bool
     false
 }
 
-/// Whether two siblings that are online run tasks with distinct cookies.
+/// Whether two siblings that are online and do not run idle run tasks with distinct cookies.
 pub fn is_exposed<R: Room>(room: &R) -> bool
-    requires { IsPlayable (R.opening room.now).scenario }
+    requires playable { IsPlayable (R.opening room.now).scenario }
+    requires events { AreEvents (R.opening room.now) (R.history room.now) }
     ensures { result ≡ now.is_exposed (fold_of (R.opening room.now) (R.history room.now)) }
 {
     let mut shared = None;

@@ -44,6 +44,7 @@ impl Model for RunTimes {
 /// Adds the time of an advance to each sibling, by what it does in the room before it.
 fn add_to_each<R: Room>(siblings: &mut [SiblingTimes], room: &R, time: u64)
     requires playable { IsPlayable (R.opening room.now).scenario }
+    requires events { AreEvents (R.opening room.now) (R.history room.now) }
     requires each { length siblings.old ≡ (R.opening room.now).scenario.siblings }
     requires did { All (λ times. did times + time ≤ u64.MAX) siblings.old }
     requires pending { All (λ times. times.pending + time ≤ u64.MAX) siblings.old }
@@ -107,6 +108,7 @@ impl RunTimes {
     /// Adds the time of an advance, by what is so in the room before it.
     fn advance<R: Room>(&mut self, room: &R, time: u64)
         requires playable { IsPlayable (R.opening room.now).scenario }
+        requires events { AreEvents (R.opening room.now) (R.history room.now) }
         requires times { self.old ≡ times_of (R.opening room.now) (R.history room.now) }
         requires fits { self.old.total + time ≤ u64.MAX }
         ensures { (entry : Entry) → span.advance_of entry.event ≡ Some time →

@@ -2,7 +2,8 @@ use Rattle.std.proofs.Common.{◌≡◌, length, sym, ap, ◌∙◌, subst, arit
 use Rattle.cs_types.specs.Scenario.{IsPlayable}
 use Rattle.cs_types.specs.Room.{Opening}
 use Rattle.cs_laws.proofs.Histories.{history_more}
-use Rattle.run_summary.proofs.Plays.{events_more, length_so_far, event_in, parts_more, rows_fit, rows_go}
+use Rattle.run_times.proofs.Events.{events_more, event_in}
+use Rattle.run_summary.proofs.Plays.{length_so_far, parts_more, rows_fit, rows_go}
 use Rattle.run_summary.proofs.run.play.Goals as goal
 
 pub before-requires-clause-playable : goal.before-requires-clause-playable

@@ -3,6 +3,8 @@ use Rattle.std.specs.Prelude.{IfSome}
 use Rattle.cs_types.specs.History.{fold_of}
 use Rattle.cs_laws.proofs.Siblings.{length-fold_of}
 use Rattle.run_times.specs.Doing.{cookie_run}
+use Rattle.run_times.proofs.Shown.{rises_of}
+use Rattle.run_times.proofs.Busy.{IsQueued, busy_cookie}
 use Rattle.run_times.proofs.Exposed.{exposed_by, unexposed}
 use Rattle.run_times.proofs.looks.is_exposed.Goals as goal
 
@@ -24,4 +26,12 @@ returns g c =
     let history = g.R.Room.history c.args.room.now in
     let room = fold_of opening history in
     sym (unexposed room c.loop-cpu.shared
-    (λ k below. c.loop-cpu.invariant.alike k (omega (arith, below, length-fold_of opening history, c.siblings-cpu-end.ensures.siblings, c.loop-cpu-test.false))))
+    (λ k below busy.
+    let few : k < opening.scenario.siblings = omega (arith, below, length-fold_of opening history) in
+    let queued : IsQueued room k = (g.met.R.Room.consistent c.args.room.now c.requires.playable c.requires.events k few).running_is_queued in
+    let own = busy_cookie room k (rises_of opening history c.requires.playable) queued busy in (
+      own.0,
+      own.1,
+      subst (λ (o : Option ℕ). IfSome o (λ cookie. c.loop-cpu.shared ≡ Some cookie)) own.1
+          (c.loop-cpu.invariant.alike k (omega (arith, few, c.siblings-cpu-end.ensures.siblings, c.loop-cpu-test.false))),
+    )))
