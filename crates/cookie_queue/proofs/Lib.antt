@@ -1,1 +1,3 @@
 pub mod Cookies
+pub mod Found
+pub mod Asked

@@ -1,11 +1,15 @@
 //! The queue: an ordered tree, whose keys are grouped by cookie.
 
-ghost use Rattle.std.specs.Prelude.{◌≡◌, ◌≢◌, ◌+◌, ◌<◌, ◌≤◌, max, None, OnOk, OnErr, IfSome, IsTrue, if◌then◌else◌};
+ghost use Rattle.std.specs.Prelude.{◌≡◌, ◌≢◌, ◌+◌, ◌<◌, ◌≤◌, ◌==◌, ◌&&◌, max, None, OnOk, OnErr, IfSome, IsTrue, if◌then◌else◌, List, All};
 ghost use Rattle.std.specs.Prelude as list;
 ghost use Rattle.std.specs.FinMap as map;
+ghost use Rattle.std.specs.Option.{option_map};
+ghost use Rattle.cs_types.specs.declared.task.Task.{Task};
 ghost use Rattle.cs_types.specs.Comparisons.{most_comparisons};
-ghost use Rattle.cs_types.specs.Queue.{IsRanked, spot_cmp, spot_of, first_with, next_with};
+ghost use Rattle.cs_types.specs.Order.{priority_of, first_of, goes_before};
+ghost use Rattle.cs_types.specs.Queue.{IsRanked, spot_cmp, spot_of, queued_of, first_with, next_with};
 ghost use Rattle.cookie_queue.specs.Anew.{respotted};
+ghost use Rattle.cookie_queue.specs.Spotted.{spotted};
 ghost use Rattle.cookie_queue.specs.Inside.{key_at, with_cookie};
 
 use cs_types::{Cookie, OutOfMemory, Pid, Queued, Steps};
@@ -120,6 +124,12 @@ impl CookieQueue {
     /// task has it.
     pub fn first_of<L: Ledger>(&self, cookie: Cookie, steps: &mut Steps<L>) -> Option<Queued>
         ensures first { result ≡ first_with self.now.tasks cookie }
+
+        // If these are the tasks with cookies of some of a room, it is the first of those with the cookie.
+        ensures model { (tasks : List Task) → self.now.tasks ≡ spotted (list.map queued_of tasks) →
+            All (λ task. priority_of task.spec.policy ≤ 99) tasks → cookie ≢ 0 →
+            result ≡ option_map queued_of (first_of (list.filter (λ task. task.cookie == cookie) tasks)) }
+
         ensures counted { steps.new ≤ steps.old + most_comparisons (map.len self.now.tasks) }
     {
         queued_with(cookie, self.tree.first_in(cookie, steps))
@@ -130,6 +140,13 @@ impl CookieQueue {
     pub fn next_of<L: Ledger>(&self, task: &Queued, steps: &mut Steps<L>) -> Option<Queued>
         requires { IsRanked task.now }
         ensures next { result ≡ next_with self.now.tasks task.now }
+
+        // If these are the tasks with cookies of some of a room, it is the first of those with the cookie behind the task.
+        ensures model { (tasks : List Task) (above : Task) → self.now.tasks ≡ spotted (list.map queued_of tasks) →
+            All (λ task. priority_of task.spec.policy ≤ 99) tasks → task.now ≡ queued_of above →
+            priority_of above.spec.policy ≤ 99 → above.cookie ≢ 0 →
+            result ≡ option_map queued_of (first_of (list.filter (λ other. (other.cookie == above.cookie) && goes_before above other) tasks)) }
+
         ensures counted { steps.new ≤ steps.old + most_comparisons (map.len self.now.tasks) }
     {
         queued_with(task.cookie, self.tree.next(&key_of(task), steps))

@@ -1,6 +1,6 @@
 -- Run: how a run queue is stored, and what always holds of it.
-use Rattle.std.specs.Prelude.{◌≡◌, ◌≢◌, ◌+◌, ◌≤◌, ◌==◌, Bool, not, if◌then◌else◌, List, map, filter, IsTrue}
-use Rattle.std.specs.FinMap.{contains_key, from_entries, insert, remove, len}
+use Rattle.std.specs.Prelude.{◌≡◌, ◌≢◌, ◌+◌, ◌≤◌, ◌==◌, if◌then◌else◌, IsTrue}
+use Rattle.std.specs.FinMap.{contains_key, insert, remove, len}
 use Rattle.cs_types.specs.declared.queue.Queued.{Queued}
 use Rattle.cs_types.specs.Queue.{RunQueued, Seats, Spot, Spots, spot_of}
 use Rattle.run_queue.specs.declared.queue.RunQueue.TheInside.{Inside}
@@ -8,14 +8,6 @@ use Rattle.run_queue.specs.declared.queue.RunQueue.TheInside.{Inside}
 -- what contracts see of it
 abbrev pub run_of : Inside → RunQueued
 run_of run = record { tasks = run.classes.tasks; cookies = run.cookies.tasks; spare = run.classes.spare }
-
--- whether a task has a cookie
-abbrev pub has_cookie : Queued → Bool
-has_cookie task = not (task.cookie == 0)
-
--- those of the tasks that have a cookie, by their spots
-abbrev pub spotted : List Queued → Spots
-spotted tasks = from_entries (map (λ task. (spot_of task, task.pid)) (filter has_cookie tasks))
 
 -- the tasks with cookies but for this one, which stands among them where it has a cookie (`sched_core_dequeue`)
 abbrev pub without : Queued → Spots → Spots

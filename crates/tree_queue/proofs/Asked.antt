@@ -16,8 +16,8 @@ use Rattle.core_lanes.specs.Queued.{queued_among, with_cookie, behind, IsOf, Hav
 use Rattle.core_lanes.proofs.Lists.{filter-map, filter-filter, All-find}
 use Rattle.core_lanes.proofs.Queues.{is_on}
 use Rattle.tree_queue.specs.Held.{seated}
-use Rattle.run_queue.proofs.Found.{found-from_entries}
-use Rattle.run_queue.proofs.Asked.{IsLow, kept_by}
+use Rattle.cookie_queue.proofs.Found.{found-from_entries}
+use Rattle.cookie_queue.proofs.Asked.{IsLow, kept_by}
 use Rattle.tree_queue.proofs.Splits.{each_is_of}
 use Rattle.tree_queue.proofs.Tasks.{low_priority}
 

@@ -23,7 +23,7 @@ use Rattle.core_lanes.proofs.Queues.{is_on}
 use Rattle.tree_queue.specs.Kinds.{kind_of, lot_of, count_of, AreCounted}
 use Rattle.tree_queue.proofs.Splits.{IsSplit, length-split}
 use Rattle.tree_queue.proofs.Tasks.{class_fits}
-use Rattle.run_queue.proofs.Asked.{IsLow}
+use Rattle.cookie_queue.proofs.Asked.{IsLow}
 use Rattle.tree_queue.proofs.Asked.{low_among, filter_alike}
 
 -- ---- a task that comes or goes

@@ -22,8 +22,8 @@ use Rattle.core_lanes.specs.Queued.{queued_among, queued_at, others, given_vtime
 use Rattle.core_lanes.proofs.Queues.{is_on}
 use Rattle.core_lanes.proofs.Replaced.{is_of as is_of_after, rises-replaced}
 use Rattle.tree_queue.specs.Held.{AreApart, is_before, earlier, first_among, is_of, given_cookie, seated, IsIn, IsInBut}
-use Rattle.run_queue.proofs.Asked.{IsLow}
-use Rattle.run_queue.proofs.Found.{found_has}
+use Rattle.cookie_queue.proofs.Asked.{IsLow}
+use Rattle.cookie_queue.proofs.Found.{found_has}
 use Rattle.tree_queue.proofs.Splits.{IsParted, each_is_of}
 
 -- ---- the order

@@ -16,7 +16,7 @@ use Rattle.cs_types.proofs.Queues.{seat_total, seat_cmp-IsAntisymmetric, spot_to
 use Rattle.order_tree.proofs.Entries.{IsPermutation-put}
 use Rattle.run_queue.specs.Run.{without, including}
 use Rattle.run_queue.proofs.Ties.{has-insert, had-insert, longer-insert}
-use Rattle.run_queue.specs.Run.{has_cookie, spotted}
+use Rattle.cookie_queue.specs.Spotted.{has_cookie, spotted}
 use Rattle.tree_queue.specs.Held.{AreApart, AreDistinct, Holds, seated}
 use Rattle.tree_queue.proofs.Made.{free_at, made-put, made-take}
 use Rattle.tree_queue.proofs.Splits.{IsParted, length-split, distinct_in, distinct_out, parted-pass, split-fail}

@@ -31,7 +31,7 @@ use Rattle.cookie_queue.specs.Anew.{respotted}
 use Rattle.run_queue.specs.Anew.{reseated}
 use Rattle.run_queue.specs.Run.{IsTied}
 use Rattle.run_queue.proofs.Ties.{IsTied-empty, IsTied-plain, IsTied-cookie}
-use Rattle.run_queue.specs.Run.{has_cookie, spotted}
+use Rattle.cookie_queue.specs.Spotted.{has_cookie, spotted}
 use Rattle.tree_queue.specs.Held.{AreApart, AreDistinct, seated}
 use Rattle.tree_queue.specs.Kinds.{kind_of, count_of, AreCounted}
 use Rattle.tree_queue.specs.Renewed.{key_in}

@@ -18,7 +18,7 @@ use Rattle.cs_types.proofs.Filtered.{foremost-filter}
 use Rattle.cs_types.proofs.Queues.{foremost-cons}
 use Rattle.core_lanes.specs.Queued.{smallest_vtime}
 use Rattle.core_lanes.proofs.Lists.{less_is_order}
-use Rattle.run_queue.proofs.Found.{found_has}
+use Rattle.cookie_queue.proofs.Found.{found_has}
 
 -- which of two fair tasks goes before the other, by their numbers
 abbrev before_by : (c d : ℕ) (x y p q : Bool) (v w s u : ℕ) → Bool

@@ -9,7 +9,7 @@ use Rattle.cs_types.specs.declared.task.Task.{Task}
 use Rattle.cs_types.specs.Order.{foremost}
 use Rattle.cs_types.specs.Queue.{Seats, RunQueued, seat_cmp, seat_of, queued_of}
 use Rattle.cs_types.specs.Room.{has_pid}
-use Rattle.run_queue.specs.Run.{spotted}
+use Rattle.cookie_queue.specs.Spotted.{spotted}
 use Rattle.tree_queue.specs.Kinds.{kind_of, lot_of, AreCounted}
 
 -- the tasks by their seats

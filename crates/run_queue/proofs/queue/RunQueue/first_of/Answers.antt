@@ -1,11 +1,10 @@
-use Rattle.std.proofs.Common.{◌∙◌, arith}
+use Rattle.std.proofs.Common.{arith}
 use Rattle.run_queue.proofs.Ties.{most_comparisons-cookies}
-use Rattle.run_queue.proofs.Asked.{first_with-spotted}
 use Rattle.run_queue.proofs.queue.RunQueue.first_of.Goals as goal
 
 pub returns-clause-model : goal.returns-clause-model
 returns-clause-model g c =
-    rw (← c.self.view_is) (λ tasks same low some. c.first_of.ensures.first ∙ first_with-spotted tasks c.self.inside.cookies.tasks same low c.args.cookie some)
+    rw (← c.self.view_is) c.first_of.ensures.model
 
 pub returns-clause-counted : goal.returns-clause-counted
 returns-clause-counted g c =

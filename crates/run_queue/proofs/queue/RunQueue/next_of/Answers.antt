@@ -1,11 +1,10 @@
-use Rattle.std.proofs.Common.{◌∙◌, arith}
+use Rattle.std.proofs.Common.{arith}
 use Rattle.run_queue.proofs.Ties.{most_comparisons-cookies}
-use Rattle.run_queue.proofs.Asked.{next_with-spotted}
 use Rattle.run_queue.proofs.queue.RunQueue.next_of.Goals as goal
 
 pub returns-clause-model : goal.returns-clause-model
 returns-clause-model g c =
-    rw (← c.self.view_is) (λ tasks above same low is low_above some. c.next_of.ensures.next ∙ next_with-spotted tasks c.self.inside.cookies.tasks same low c.args.task.now above is low_above some)
+    rw (← c.self.view_is) c.next_of.ensures.model
 
 pub returns-clause-counted : goal.returns-clause-counted
 returns-clause-counted g c =

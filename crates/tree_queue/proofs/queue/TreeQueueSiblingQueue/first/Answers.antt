@@ -1,7 +1,7 @@
 use Rattle.std.proofs.Common.{arith, ◌∙◌}
 use Rattle.std.proofs.lemmas.List.Elements.{recursion_from_All}
 use Rattle.core_lanes.specs.Queued.{queued_among}
-use Rattle.run_queue.proofs.Asked.{IsLow}
+use Rattle.cookie_queue.proofs.Asked.{IsLow}
 use Rattle.tree_queue.proofs.Asked.{low_among}
 use Rattle.tree_queue.proofs.Firsts.{first_at-first_of}
 use Rattle.tree_queue.proofs.queue.TreeQueueSiblingQueue.first.Goals as goal

@@ -17,7 +17,7 @@ use Rattle.run_queue.specs.Run.{IsTied}
 use Rattle.order_tree.proofs.Entries.{true_by}
 use Rattle.core_lanes.specs.Queued.{queued_among, queued_at}
 use Rattle.core_lanes.specs.Moved.{MayRenew, again}
-use Rattle.run_queue.specs.Run.{spotted}
+use Rattle.cookie_queue.specs.Spotted.{spotted}
 use Rattle.tree_queue.specs.Held.{AreDistinct, Keeps, Holds, seated}
 use Rattle.tree_queue.specs.Kinds.{kind_of, lot_of, AreCounted}
 use Rattle.tree_queue.specs.Renewed.{key_in}

@@ -5,7 +5,7 @@ use Rattle.cs_types.specs.Order.{fair_class, is_fair}
 use Rattle.cs_types.specs.Queue.{Seat, Seats}
 use Rattle.run_queue.specs.Fair.{least_rank_in}
 use Rattle.core_lanes.specs.Queued.{queued_among}
-use Rattle.run_queue.proofs.Asked.{IsLow}
+use Rattle.cookie_queue.proofs.Asked.{IsLow}
 use Rattle.tree_queue.proofs.Asked.{low_among, first_told}
 use Rattle.tree_queue.proofs.Firsts.{first_at-first_of}
 use Rattle.tree_queue.proofs.Vtimes.{smallest-rank, smallest_first}

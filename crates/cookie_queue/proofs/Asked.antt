@@ -1,4 +1,4 @@
--- Asked: the first of those with a cookie of a run queue, as a question of the tasks that it holds.
+-- Asked: the first of those with a cookie, as a question of the tasks that a queue holds.
 use Rattle.std.proofs.Common.{◌≡◌, ◌≢◌, ℕ, ◌≤◌, Bool, true, false, cond, not, List, [], ◌∷◌, map, Option, None, Some, refl, sym, ap, ◌∙◌}
 use Rattle.std.specs.Prelude.{◌==◌, ◌&&◌, find, filter, All}
 use Rattle.std.specs.List.{AllByRecursion}
@@ -16,8 +16,8 @@ use Rattle.cs_types.specs.declared.queue.Queued.{Queued}
 use Rattle.cs_types.specs.Order.{priority_of, goes_before, first_of, foremost}
 use Rattle.cs_types.specs.Queue.{seat_cmp, Spot, Spots, seat_of, spot_of, queued_in, queued_of, first_with, next_with}
 use Rattle.cs_types.proofs.Queues.{spot_total, spot_cmp-IsAntisymmetric, precedes, foremost-map, foremost_alike, goes_before-seats}
-use Rattle.run_queue.specs.Run.{has_cookie, spotted}
-use Rattle.run_queue.proofs.Found.{found-from_entries}
+use Rattle.cookie_queue.specs.Spotted.{has_cookie, spotted}
+use Rattle.cookie_queue.proofs.Found.{found-from_entries}
 
 -- some of what a list stands for, and of these what passes, are what it has of another test
 module _ {X Y Z : Type 0} (P : X → Type 0) (g : X → Y) (some : Y → Bool) (f : Y → Z) (pass : Z → Bool) (q : X → Bool) (alike : (x : X) → P x → (some (g x) && pass (f (g x))) ≡ q x) where
