@@ -153,16 +153,19 @@ ends_written IsOutcome caps source sink read value ended has is scenario taught 
       | inl done ↦
           rw done
           (ends_done IsOutcome caps source sink read value has is (output.written.faultless done) scenario
-          (record { reads = reads; run = run; outcome = outcome; writes = output.written.whole done; spelled = spelled done }) taught)
+          (record { reads = reads; run = run; outcome = outcome; writes = output.written.whole done; entries = entries done; spelled = spelled done }) taught)
       | inr fault ↦
           rw fault
           (ends_write_fault IsOutcome caps source sink read value has is (omega (arith, output.written.failed fault, few)) scenario
           (record { reads = reads; run = run; outcome = outcome; writes = output.written.prefix }) taught)
     ] where
+      entries : ended ≡ status.Done → All IsEntry run
+      entries done k d lt = record { made = made k d lt; reply = output.numbers done k d lt }
+
       spelled : ended ≡ status.Done → (begun : Opening) (other : History) → All IsEntry other →
           output_text begun other ≡ output_text (opened_with caps scenario) run → other ≡ run
       spelled done begun other is same =
-          output.one begun other is (λ k d lt. record { made = made k d lt; reply = output.numbers done k d lt }) same
+          output.one begun other is (entries done) same
 
 pub ends_stopped : {S K T : Type 0} (IsOutcome : Opening → History → Type 0) (caps : List ℕ) (source : Used S) (sink : Used K) (read : Result T Stop) (stop : Stop) →
     HasRead caps source read → read ≡ Err stop → sink.after ≡ sink.before →

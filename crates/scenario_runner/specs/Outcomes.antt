@@ -81,7 +81,9 @@ pub record Outputs (IsOutcome : Opening → History → Type 0) (opening : Openi
   pub run : History
   pub outcome : IsOutcome opening run
   pub writes : now ≡ appended written (output_text opening run)
-  -- that is the output of no other history, whatever it begins with
+  -- what its entries are of: steps that are made, and replies whose numbers have 64 bits
+  pub entries : All IsEntry run
+  -- that is the output of no other history of such entries, whatever it begins with
   pub spelled : (begun : Opening) (other : History) → All IsEntry other → output_text begun other ≡ output_text opening run → other ≡ run
 
 -- Or a prefix of that output was written.
