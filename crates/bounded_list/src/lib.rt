@@ -1,0 +1,9 @@
+//! A list with room for so many items. The call that makes it takes memory for them all, and no other call takes any:
+//! there is none that could, so what keeps its items in such a list needs no memory once it is made.
+
+#![tactic(auto)]
+
+mod list;
+mod slices;
+
+pub use list::BoundedList;
