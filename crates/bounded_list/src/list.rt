@@ -47,8 +47,7 @@ impl<T> BoundedList<T> {
     /// How many items there are, from 0 to the room.
     #[inline(always)]
     pub fn len(&self) -> usize
-        ensures len { result ≡ length self.now.items }
-        ensures fits { result ≤ self.now.room }
+        ensures { result ≡ length self.now.items }
     {
         self.items.len()
     }
@@ -82,7 +81,7 @@ impl<T> BoundedList<T> {
     /// The items, lent.
     #[inline(always)]
     pub fn as_slice(&self) -> &[T]
-        ensures items { result.now ≡ self.now.items }
+        ensures value { result.now ≡ self.now.items }
         ensures fits { length result.now ≤ self.now.room }
     {
         self.items.as_slice()
@@ -92,7 +91,7 @@ impl<T> BoundedList<T> {
     #[inline(always)]
     pub fn as_mut_slice(&mut self) -> &mut [T]
         ensures* writes_back { sem 𝓛 (LendsItems T.row self.entry result) }
-        ensures items { result.now ≡ self.old.items }
+        ensures value { result.now ≡ self.old.items }
         ensures fits { length result.now ≤ self.old.room }
     {
         self.items.as_mut_slice()
@@ -114,7 +113,7 @@ impl<T> BoundedList<T> {
     pub(crate) fn item_mut(&mut self, index: usize) -> &mut T
         requires { index < length self.old.items }
         ensures* writes_back { sem 𝓛 (LendsItem T.row self.entry index result) }
-        ensures item { result.now ≡ slice_index_or self.old.items index result.now }
+        ensures value { result.now ≡ slice_index_or self.old.items index result.now }
     {
         &mut self.items[index]
     }
@@ -194,7 +193,7 @@ impl<T: Drop> BoundedList<T> {
     /// Keeps the items of which the closure answers `true`, in their order, and drops the others.
     pub fn retain<F: FnMut(&T) -> bool>(&mut self, keeps: F)
         requires { F.IsAlwaysCallable keeps }
-        ensures items { IsFiltered (CalledAt F.FnMut) keeps self.old.items self.new.items }
+        ensures filtered { IsFiltered (CalledAt F.FnMut) keeps self.old.items self.new.items }
         ensures room { self.new.room ≡ self.old.room }
     {
         self.items.retain(keeps);

@@ -16,7 +16,10 @@ impl<T> DerefSlice for BoundedList<T> {
     ghost deref_gives = { λ list items. (items ≡ list.items) × (length items ≤ list.room) };
 
     #[inline(always)]
-    fn deref(&self) -> &[T] {
+    fn deref(&self) -> &[T]
+        ensures value { result.now ≡ self.now.items }
+        ensures fits { length result.now ≤ self.now.room }
+    {
         self.as_slice()
     }
 }
@@ -25,7 +28,7 @@ impl<T> DerefSliceMut for BoundedList<T> {
     #[inline(always)]
     fn deref_mut(&mut self) -> &mut [T]
         ensures* writes_back { sem 𝓛 (LendsItems T.row self.entry result) }
-        ensures items { result.now ≡ self.old.items }
+        ensures value { result.now ≡ self.old.items }
         ensures fits { length result.now ≤ self.old.room }
     {
         self.as_mut_slice()
@@ -53,7 +56,7 @@ impl<T> IndexMut<usize> for BoundedList<T> {
     fn index_mut(&mut self, index: usize) -> &mut T
         requires { index < length self.old.items }
         ensures* writes_back { sem 𝓛 (LendsItem T.row self.entry index result) }
-        ensures item { result.now ≡ slice_index_or self.old.items index result.now }
+        ensures value { result.now ≡ slice_index_or self.old.items index result.now }
     {
         self.item_mut(index)
     }

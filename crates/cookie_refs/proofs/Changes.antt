@@ -1,7 +1,7 @@
 -- One count changes, as by `get` and `put`: what becomes of the counts, and that what always holds does so still.
 use Rattle.std.proofs.Common.{◌≡◌, ◌≢◌, ℕ, ◌+◌, ◌<◌, cond, get_or, sym, ap, ◌∙◌, arith}
 use Rattle.std.specs.Prelude.{◌==◌}
-use Rattle.std.specs.Vec.{with_item}
+use Rattle.bounded_list.specs.Bounded.{with_item}
 use Rattle.std.proofs.lemmas.Bool.Decides.{nat_tests}
 use Rattle.std.proofs.lemmas.List.Elements.{All-set}
 use Rattle.std.proofs.lemmas.List.Sums.{get_or-le-sum_by, length-filter}

@@ -1,5 +1,5 @@
 -- Inside: how the counts are stored, and what always holds of them.
-use Rattle.std.specs.Prelude.{◌≡◌, ℕ, ◌*◌, ◌^◌, ◌<◌, ◌≤◌, ◌==◌, not, if◌then◌else◌, List, map, length, slice_index_or, sum_by, All, AllPairs, vec_capacity}
+use Rattle.std.specs.Prelude.{◌≡◌, ℕ, ◌*◌, ◌^◌, ◌<◌, ◌≤◌, ◌==◌, not, if◌then◌else◌, List, map, length, slice_index_or, sum_by, All, AllPairs}
 use Rattle.std.specs.List.{filter}
 use Rattle.std.specs.FinMap.{from_sorted}
 use Rattle.cookie_refs.specs.declared.refs.CookieCount.{CookieCount}
@@ -35,8 +35,8 @@ pub record IsSound (refs : Inside) : Type 0 where
   pub counted : refs.live ≡ length (live_of refs.cookies.items)
   pub few : refs.live ≤ refs.limit
   pub limit_fits : refs.limit < 2 ^ 16
-  -- so no later call takes memory
-  pub room : 2 * refs.limit ≤ vec_capacity refs.cookies
+  -- so one more can be made, if those that ended are taken out
+  pub room : 2 * refs.limit ≤ refs.cookies.room
 
 -- how many references a cookie has among these
 abbrev pub count_in : List CookieCount → ℕ → ℕ

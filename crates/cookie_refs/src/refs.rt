@@ -1,12 +1,13 @@
-//! How many references each cookie has, in one vector by rising serial. A cookie that ended stays in it, with none,
+//! How many references each cookie has, in one list by rising serial. A cookie that ended stays in it, with none,
 //! until there is no place for a new one. So a cookie's index changes only when those that ended are taken out.
 
-ghost use Rattle.std.specs.Prelude.{◌≡◌, ◌≢◌, ℕ, ◌+◌, ◌^◌, ◌<◌, ◌↔◌, ◌==◌, if◌then◌else◌, IsErr, IfOk, IfErr, OnOk, OnErr, IfSome, IfNone, ◌≤◌, length, IsTrue, vec_len, vec_capacity};
+ghost use Rattle.std.specs.Prelude.{◌≡◌, ◌≢◌, ℕ, ◌+◌, ◌^◌, ◌<◌, ◌↔◌, ◌==◌, if◌then◌else◌, IsErr, IfOk, IfErr, OnOk, OnErr, IfSome, IfNone, ◌≤◌, length, IsTrue};
 ghost use Rattle.cs_types.specs.Prctl.{live_cookies};
 ghost use Rattle.cookie_refs.specs.Refs.{count_of, live_count, references, Agree};
 ghost use Rattle.cookie_refs.specs.Inside.{IsRising, AreCookies, IsAt, count_in, live_of};
 
 use crate::places::Places;
+use bounded_list::BoundedList;
 use cs_types::{Cookie, OutOfMemory};
 use std::alloc::Global;
 use std::marker::Model;
@@ -31,7 +32,7 @@ struct CookieCount {
 /// again.
 #[derive(Drop)]
 pub struct CookieRefs {
-    cookies: Vec<CookieCount>,
+    cookies: BoundedList<CookieCount>,
     places: Places,
     next: Cookie,
     live: u16,
@@ -61,7 +62,7 @@ impl CookieRefs {
         ensures next { IfOk result (λ refs. refs.next ≡ 1) }
         ensures limit { IfOk result (λ refs. refs.limit ≡ limit) }
     {
-        let cookies = Vec::with_capacity(alloc, 2 * usize::from(limit))?;
+        let cookies = BoundedList::with_room(alloc, 2 * usize::from(limit))?;
         Ok(CookieRefs {
             cookies,
             places: Places::none(),
@@ -100,7 +101,7 @@ impl CookieRefs {
         take_out_ended(&mut self.cookies, &mut self.places);
         let cookie = self.next;
         self.places.note(cookie, self.cookies.len());
-        self.cookies.push_reserved(CookieCount { cookie, count: 1 });
+        self.cookies.push(CookieCount { cookie, count: 1 });
         self.next += 1;
         self.live += 1;
         Ok(cookie)
@@ -185,12 +186,12 @@ impl CookieRefs {
 }
 
 /// Takes out the cookies that ended, where there is no place for one more. The indices of the others are noted anew then.
-fn take_out_ended(cookies: &mut Vec<CookieCount>, places: &mut Places)
+fn take_out_ended(cookies: &mut BoundedList<CookieCount>, places: &mut Places)
     ensures items { cookies.new.items ≡
-        (if vec_len cookies.old == vec_capacity cookies.old then live_of cookies.old.items else cookies.old.items) }
-    ensures capacity { vec_capacity cookies.new ≡ vec_capacity cookies.old }
+        (if length cookies.old.items == cookies.old.room then live_of cookies.old.items else cookies.old.items) }
+    ensures room { cookies.new.room ≡ cookies.old.room }
 {
-    if cookies.len() == cookies.capacity() {
+    if cookies.is_full() {
         cookies.retain(|one| one.count != 0);
         note_all(cookies, places);
     }

@@ -5,9 +5,7 @@ use Rattle.std.specs.Option.{IsSome}
 use Rattle.std.specs.List.{enumerate_from, range_with_len, list_any}
 use Rattle.std.specs.Cmp.{IsStrictWeakOrder}
 use Rattle.std.proofs.lemmas.Bool.Decides.{nat_tests}
-use Rattle.std.specs.Global.{Vec}
-use Rattle.std.specs.Vec.{with_items}
-use Rattle.std.proofs.lemmas.List.{length-map, with_items_is}
+use Rattle.std.proofs.lemmas.List.{length-map}
 use Rattle.std.proofs.lemmas.List.Sums.{length-filter}
 use Rattle.std.proofs.lemmas.List.Elements.{All-head, All-tail, filter_agree}
 use Rattle.cs_types.specs.declared.task.Task.{Task}
@@ -132,11 +130,7 @@ places {X} (x ∷ xs) d =
     ap (λ (ys : List X). x ∷ ys)
     (map-range_next (λ i. get_or (x ∷ xs) i d) (λ i. get_or xs i d) 0 (length xs) (λ i. rw (add-one i) refl) ∙ places xs d)
 
--- a vector's items after a change that keeps their number
-pub items-as_many : {X : Type 0} (v : Vec X) (after : List X) → length after ≡ length v.items → (with_items v after).items ≡ after
-items-as_many v after e = with_items_is v after (e ∙ sym v.ok.0)
-
--- the place where such a change stands has what it had
+-- the place where a change of a list stands has what it had
 pub mapped_at : {X : Type 0} (g : X → X) (xs : List X) (i : ℕ) (d : X) → i < length xs → get_or (map g (take i xs) ++ drop i xs) i d ≡ get_or xs i d
 mapped_at g [] i d lt = absurd (omega arith)
 mapped_at g (x ∷ xs) zero d lt = refl

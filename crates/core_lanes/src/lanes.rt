@@ -16,6 +16,7 @@ ghost use Rattle.core_lanes.specs.Queued.{IsOf, queued_among, mover_of, AreTold,
 use crate::lane::Lane;
 use crate::order::is_alike;
 use crate::queue::SiblingQueue;
+use bounded_list::BoundedList;
 use cs_types::{Cookie, Cpu, OutOfMemory, Pid, Queued, Steps, Task};
 use forceidle_account::ForceIdle;
 use std::alloc::Global;
@@ -48,7 +49,7 @@ pub struct Core<Q: SiblingQueue> {
     /// `core_forceidle_occupation` and `core_forceidle_start`).
     pub account: ForceIdle,
     /// The siblings, by rising number.
-    pub lanes: Vec<Lane<Q>>,
+    pub lanes: BoundedList<Lane<Q>>,
     ghost few: { length lanes.items ≤ 16 },
 }
 
@@ -65,9 +66,9 @@ impl<Q: SiblingQueue> Core<Q> {
         requires { siblings ≤ 16 }
         ensures { IfOk result (IsFirstCore siblings tasks) }
     {
-        let mut lanes = Vec::with_capacity(alloc, siblings as usize)?;
+        let mut lanes = BoundedList::with_room(alloc, siblings as usize)?;
         for _ in 0..siblings {
-            lanes.push_reserved(Lane::with_queue(Q::with_capacity(alloc, tasks)?));
+            lanes.push(Lane::with_queue(Q::with_capacity(alloc, tasks)?));
         }
         Ok(Core {
             cookie: 0,

@@ -163,10 +163,6 @@ caps-past seats i cap past =
 
 -- ---- room
 
--- what is kept is kept in more places
-pub AreKept-more : (guards : GuardList) (places more : ℕ) → places ≤ more → AreKept guards places → AreKept guards more
-AreKept-more guards places more fewer are = record { once = are.once; parts = are.parts; fits = omega (arith, are.fits); few = are.few }
-
 -- there is room for a guard that is loaded
 pub room_to_load : (seats : List Seated) (active : List ℕ) (places i : ℕ) (seat : Seated) → i < length seats → seat ≡ get_or seats i seat →
     load_with.Loaded ≡ load_answer seat.guard → AreKept (guards_in seats active) places → length active < places

@@ -1,6 +1,6 @@
 //! The guards of a core, which are asked after the rules of the kernel itself.
 
-ghost use Rattle.std.specs.Prelude.{◌≡◌, ◌<◌, ◌≤◌, ◌^◌, [], ◌∷◌, All, not, length, map, filter, IsTrue, IfOk, vec_len, vec_capacity, slice_set, ◌==◌};
+ghost use Rattle.std.specs.Prelude.{◌≡◌, ◌<◌, ◌≤◌, ◌^◌, [], ◌∷◌, All, not, length, map, filter, IsTrue, IfOk, vec_len, slice_set, ◌==◌};
 ghost use Rattle.std.specs.List.{list_all};
 ghost use Rattle.cs_types.specs.Guards.{guard_of, with_guard, guards_on_bench, load, unload, is_active, refuses, asked_once, asked_each, asked_until};
 ghost use Rattle.cs_types.specs.View.{guard_view};
@@ -10,6 +10,7 @@ ghost use Rattle.ptrace_check.specs.Inside.{guards_in};
 
 use crate::answer::{LoadAnswer, TeachAnswer, UnloadAnswer};
 use crate::seat::Seat;
+use bounded_list::BoundedList;
 use cs_outside::Guard;
 use cs_types::{Bench, GuardView, OutOfMemory};
 use std::alloc::Global;
@@ -20,13 +21,12 @@ use std::marker::Model;
 /// `Box<dyn Guard + Send>`, which is a guard too.
 #[derive(Drop)]
 pub struct Guards<G: Guard> {
-    seats: Vec<Seat<G>>,
+    seats: BoundedList<Seat<G>>,
     /// The numbers of those that are active, in the order of loading.
-    active: Vec<u8>,
+    active: BoundedList<u8>,
 }
 
 impl<G: Guard> Model for Guards<G> {
-    ghost use Rattle.std.specs.Prelude.{vec_capacity};
     ghost use Rattle.ptrace_check.specs.Guards.{Guarded};
     ghost use Rattle.ptrace_check.specs.Inside.{guards_in, kept, AreKept};
 
@@ -34,7 +34,7 @@ impl<G: Guard> Model for Guards<G> {
 
     ghost view = { λ guards. kept guards.seats.items guards.active.items };
 
-    ghost invariant = { λ guards. AreKept (guards_in guards.seats.items guards.active.items) (vec_capacity guards.active) };
+    ghost invariant = { λ guards. AreKept (guards_in guards.seats.items guards.active.items) guards.active.room };
 }
 
 impl<G: Guard> Bench for Guards<G> {
@@ -42,15 +42,15 @@ impl<G: Guard> Bench for Guards<G> {
 }
 
 /// Takes a number out of the order of loading.
-fn take_out(active: &mut Vec<u8>, index: u8)
+fn take_out(active: &mut BoundedList<u8>, index: u8)
     ensures others { active.new.items ≡ filter (λ other. not (other == index)) active.old.items }
-    ensures capacity { vec_capacity active.old ≤ vec_capacity active.new }
+    ensures room { active.new.room ≡ active.old.room }
 {
     active.retain(|other| *other != index);
 }
 
 /// Asks the guard in the seat of this number, which is active, whether it allows an access.
-fn ask<G: Guard>(seats: &mut Vec<Seat<G>>, index: u8, from: u32, to: u32) -> bool
+fn ask<G: Guard>(seats: &mut BoundedList<Seat<G>>, index: u8, from: u32, to: u32) -> bool
     requires active { IsTrue (is_active (guard_of (guards_in seats.old.items []) index).place) }
     requires count { (guard_of (guards_in seats.old.items []) index).asked < 2 ^ 63 }
     ensures decision { result ≡ not (refuses (guard_of (guards_in seats.old.items []) index) (from, to)) }
@@ -68,10 +68,10 @@ impl<G: Guard> Guards<G> {
         ensures guards { IfOk result (λ guards. guards.guards ≡ guards_on_bench [] (vec_len list)) }
         ensures caps { IfOk result (λ guards. guards.caps ≡ map G.cap list.items) }
     {
-        let active = Vec::with_capacity(alloc, list.len())?;
-        let mut seats = Vec::with_capacity(alloc, list.len())?;
+        let active = BoundedList::with_room(alloc, list.len())?;
+        let mut seats = BoundedList::with_room(alloc, list.len())?;
         for guard in list {
-            seats.push(Seat::of(guard))?;
+            seats.push(Seat::of(guard));
         }
         Ok(Guards { seats, active })
     }
@@ -127,7 +127,7 @@ impl<G: Guard> Guards<G> {
         };
         let answer = seat.load();
         if let LoadAnswer::Loaded = answer {
-            self.active.push(index).unwrap();
+            self.active.push(index);
         }
         answer
     }

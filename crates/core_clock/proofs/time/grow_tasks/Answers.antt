@@ -28,7 +28,7 @@ loop-cpu-init g c = record {
 
 pub grow_on-requires-clause-at : goal.grow_on-requires-clause-at
 grow_on-requires-clause-at g c = record {
-  cpu = still_below c.loop-cpu.invariant.changes.stays (omega (arith, c.loop-cpu-test.true, c.len-cpu-end.ensures, c.args.core.now.lanes.ok.0));
+  cpu = still_below c.loop-cpu.invariant.changes.stays (omega (arith, c.loop-cpu-test.true, c.len-cpu-end.ensures));
   agree = c.loop-cpu.invariant.changes.stays.agree c.requires.agree;
 }
 
@@ -68,7 +68,7 @@ loop-cpu-preserved g c =
     let old : both = (c.args.core.now, c.args.table.now) in
     let mid : both = (c.loop-cpu.core, c.loop-cpu.table) in
     let cpu = c.loop-cpu.cpu in
-    let below : cpu < length c.args.core.now.lanes.items = omega (arith, c.loop-cpu-test.true, c.len-cpu-end.ensures, c.args.core.now.lanes.ok.0) in
+    let below : cpu < length c.args.core.now.lanes.items = omega (arith, c.loop-cpu-test.true, c.len-cpu-end.ensures) in
     let changes = c.loop-cpu.invariant.changes in
     record {
       changes = more_grown old mid _ c.args.delta cpu below changes
@@ -84,11 +84,11 @@ returns-clause-changes g c =
     let lanes = c.args.core.now.lanes in
     let cpu = c.loop-cpu.cpu in
     let all : cpu ≡ length (map lane_state lanes.items) =
-    omega (arith, c.loop-cpu-test.false, c.loop-cpu.auto.cpu-end, c.len-cpu-end.ensures, lanes.ok.0, length-map lanes.items lane_state) in
+    omega (arith, c.loop-cpu-test.false, c.loop-cpu.auto.cpu-end, c.len-cpu-end.ensures, length-map lanes.items lane_state) in
     changes_as (λ beside. grown_with_all c.args.delta cpu (room_of beside (c.args.core.now, c.args.table.now)) all) c.loop-cpu.invariant.changes
 
 pub returns-clause-counted : goal.returns-clause-counted
 returns-clause-counted g c =
     let lanes = c.args.core.now.lanes in
-    let all : c.loop-cpu.cpu ≡ length lanes.items = omega (arith, c.loop-cpu-test.false, c.loop-cpu.auto.cpu-end, c.len-cpu-end.ensures, lanes.ok.0) in
+    let all : c.loop-cpu.cpu ≡ length lanes.items = omega (arith, c.loop-cpu-test.false, c.loop-cpu.auto.cpu-end, c.len-cpu-end.ensures) in
     subst (λ n. ComparesFor (2 * n) (c.args.core.now, c.args.table.now) c.args.steps.now c.loop-cpu.steps) all c.loop-cpu.invariant.counted

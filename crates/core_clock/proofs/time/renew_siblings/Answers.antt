@@ -34,7 +34,7 @@ pub overflow_add-lane : goal.overflow_add-lane
 overflow_add-lane g c =
     let old = c.args.core.now.lanes in
     let cpu = c.loop-cpu.cpu in
-    let below : cpu < length old.items = omega (arith, c.loop-cpu-test.true, c.len-cpu-end.ensures, old.ok.0) in
+    let below : cpu < length old.items = omega (arith, c.loop-cpu-test.true, c.len-cpu-end.ensures) in
     let inside : cpu < length c.loop-cpu.core.lanes.items = omega (arith, below, ap (λ (kept : Kept). kept.siblings) c.loop-cpu.invariant.changes.stays.kept) in
     let same = next_is (c.args.core.now, c.args.table.now) (c.loop-cpu.core, c.args.table.now) c.args.delta cpu c.index_mut-lane.result.now below inside c.loop-cpu.invariant.changes c.index_mut-lane.ensures.value in
     omega (arith, ap (λ (sibling : SiblingState). sibling.ran) same, c.requires.ran cpu absent (omega (arith, below, length-map old.items lane_state)))
@@ -45,7 +45,7 @@ smallest_vtime-requires g c =
     record {
       policies = policies_of (c.loop-cpu.core, c.args.table.now) agree;
       holds = held_at (c.loop-cpu.core, c.args.table.now) c.loop-cpu.cpu c.index_mut-lane.result.now agree
-          (omega (arith, c.loop-cpu-test.true, c.len-cpu-end.ensures, c.args.core.now.lanes.ok.0, ap (λ (kept : Kept). kept.siblings) c.loop-cpu.invariant.changes.stays.kept))
+          (omega (arith, c.loop-cpu-test.true, c.len-cpu-end.ensures, ap (λ (kept : Kept). kept.siblings) c.loop-cpu.invariant.changes.stays.kept))
           c.index_mut-lane.ensures.value;
     }
 
@@ -64,7 +64,7 @@ loop-cpu-preserved g c =
     let cpu = c.loop-cpu.cpu in
     let lane = c.index_mut-lane.result.now in
     let is = c.index_mut-lane.ensures.value in
-    let below : cpu < length c.args.core.now.lanes.items = omega (arith, c.loop-cpu-test.true, c.len-cpu-end.ensures, c.args.core.now.lanes.ok.0) in
+    let below : cpu < length c.args.core.now.lanes.items = omega (arith, c.loop-cpu-test.true, c.len-cpu-end.ensures) in
     let inside : cpu < length lanes = omega (arith, below, ap (λ (kept : Kept). kept.siblings) c.loop-cpu.invariant.changes.stays.kept) in
     let here = lane_at lanes cpu lane inside is in
     let once : ComparesFor 1 old c.loop-cpu.steps c.smallest_vtime.new.steps =
@@ -97,11 +97,11 @@ returns-clause-changes g c =
     let lanes = c.args.core.now.lanes in
     let cpu = c.loop-cpu.cpu in
     let all : cpu ≡ length (map lane_state lanes.items) =
-    omega (arith, c.loop-cpu-test.false, c.loop-cpu.auto.cpu-end, c.len-cpu-end.ensures, lanes.ok.0, length-map lanes.items lane_state) in
+    omega (arith, c.loop-cpu-test.false, c.loop-cpu.auto.cpu-end, c.len-cpu-end.ensures, length-map lanes.items lane_state) in
     changes_as (λ beside. renewed_all c.args.delta cpu (room_of beside (c.args.core.now, c.args.table.now)) all) c.loop-cpu.invariant.changes
 
 pub returns-clause-counted : goal.returns-clause-counted
 returns-clause-counted g c =
     let lanes = c.args.core.now.lanes in
-    let all : c.loop-cpu.cpu ≡ length lanes.items = omega (arith, c.loop-cpu-test.false, c.loop-cpu.auto.cpu-end, c.len-cpu-end.ensures, lanes.ok.0) in
+    let all : c.loop-cpu.cpu ≡ length lanes.items = omega (arith, c.loop-cpu-test.false, c.loop-cpu.auto.cpu-end, c.len-cpu-end.ensures) in
     subst (λ n. ComparesFor n (c.args.core.now, c.args.table.now) c.args.steps.now c.loop-cpu.steps) all c.loop-cpu.invariant.counted

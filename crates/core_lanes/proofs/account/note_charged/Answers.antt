@@ -51,5 +51,5 @@ returns-clause-tasks g c beside =
     let core = c.args.core.now in
     let room = room_of beside (core, c.args.table.now) in
     let all : c.loop-cpu.cpu ≡ length room.siblings =
-    omega (arith, core.lanes.ok.0, c.loop-cpu-test.false, c.loop-cpu.auto.cpu-end, length-map core.lanes.items lane_state) in
+    omega (arith, c.loop-cpu-test.false, c.loop-cpu.auto.cpu-end, length-map core.lanes.items lane_state) in
     c.loop-cpu.invariant.tasks beside ∙ ap (λ n. filter_map (charged_at room) (range_with_len 0 n)) all ∙ charged_each room

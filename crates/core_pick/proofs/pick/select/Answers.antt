@@ -29,7 +29,7 @@ touch-requires g c = subst (λ n. n + 1 < 2 ^ 64) (sym (ap (λ (n : Numbers). n.
 pub index_mut-requires : goal.index_mut-requires
 index_mut-requires g c =
     let kept = (c.touch.ensures c.select_for-run.new.table).stays.kept ∙ c.select_for-run.ensures.selects.stays.kept in
-    subst (λ n. c.args.cpu < n) (sym (c.touch.new.self.lanes.ok.0 ∙ ap (λ (k : Kept). k.siblings) kept)) c.requires.may.cpu
+    subst (λ n. c.args.cpu < n) (sym (ap (λ (k : Kept). k.siblings) kept)) c.requires.may.cpu
 
 pub invariant_of-core : goal.invariant_of-core
 invariant_of-core g c = record { few = subst (λ n. n ≤ 16) (sym (length-set c.touch.new.self.lanes.items c.args.cpu _)) c.touch.new.self.few }

@@ -5,7 +5,7 @@ use Rattle.cs_types.specs.Selection.{choice, select_for, forced_count, occupatio
 use Rattle.cs_laws.proofs.Selections.{occupied}
 use Rattle.core_lanes.specs.Lanes.{Beside, at, lane_state, room_of, bare}
 use Rattle.core_lanes.specs.Numbers.{numbers_by}
-use Rattle.core_lanes.proofs.Lists.{items-as_many}
+use Rattle.bounded_list.proofs.Items.{with_items_is}
 use Rattle.core_lanes.proofs.Stays.{some_beside, number_of, queue_of}
 use Rattle.core_pick.specs.declared.choice.Choice.{Choice}
 use Rattle.core_pick.specs.Choice.{run_of, choice_of, IsPlan}
@@ -37,7 +37,7 @@ bounds-choices-cpu g c = subst (λ n. c.args.cpu < n) (sym (choices_as_many (roo
 
 pub invariant_of-core : goal.invariant_of-core
 invariant_of-core g c =
-    let kept_lanes = items-as_many c.args.core.now.lanes c.update.new.lanes (c.update.auto.lanes ∙ ap length c.deref_mut.ensures.value) in
+    let kept_lanes = with_items_is c.args.core.now.lanes c.update.new.lanes (c.update.auto.lanes ∙ ap length c.deref_mut.ensures.value) in
     record { few = subst (λ n. n ≤ 16) (sym (ap length kept_lanes ∙ c.update.auto.lanes ∙ ap length c.deref_mut.ensures.value)) c.args.core.now.few }
 
 pub returns-clause-counted : goal.returns-clause-counted
@@ -72,7 +72,7 @@ returns-clause-selects g c = record {
       let begun = c.begin.ensures.count ∙ forced in
       let chosen = c.begin.ensures.occupation ∙ occupation in
       let started = c.begin.ensures.started ∙ ap (λ n. cond ((n == 0) || (c.args.cookie == 0)) None (Some c.args.now)) forced in
-      let kept_lanes = items-as_many c.args.core.now.lanes c.update.new.lanes (c.update.auto.lanes ∙ ap length c.deref_mut.ensures.value) in
+      let kept_lanes = with_items_is c.args.core.now.lanes c.update.new.lanes (c.update.auto.lanes ∙ ap length c.deref_mut.ensures.value) in
       let siblings = ap (map lane_state) kept_lanes
       ∙ (c.update.ensures.hands room c.args.cookie (sym (ap (map lane_state) c.deref_mut.ensures.value)) (plan g c beside)).states in
       let table = tasks_are g c beside in
@@ -86,11 +86,11 @@ returns-clause-selects g c = record {
         started = started i;
       };
   numbers =
-      let kept_lanes = items-as_many c.args.core.now.lanes c.update.new.lanes (c.update.auto.lanes ∙ ap length c.deref_mut.ensures.value) in
+      let kept_lanes = with_items_is c.args.core.now.lanes c.update.new.lanes (c.update.auto.lanes ∙ ap length c.deref_mut.ensures.value) in
       let own = ap (map number_of) kept_lanes ∙ numbers_of_own c.update.new.lanes _ c.update.ensures.own ∙ ap (map number_of) c.deref_mut.ensures.value in
       λ i. record (numbers_by (bare c.args.core.now) (tasks_are g c some_beside i)) { intervals = c.begin.ensures.intervals i; own = own i };
   stays =
-      let kept_lanes = items-as_many c.args.core.now.lanes c.update.new.lanes (c.update.auto.lanes ∙ ap length c.deref_mut.ensures.value) in
+      let kept_lanes = with_items_is c.args.core.now.lanes c.update.new.lanes (c.update.auto.lanes ∙ ap length c.deref_mut.ensures.value) in
       stays-remembered _ _ (λ task. (task_after_selection (room_of (at c.args.now some_beside) (c.args.core.now, c.args.table.now)) c.args.cookie task).occupation)
       (tasks_are g c some_beside) c.update.ensures.sound
       (ap (map queue_of) kept_lanes ∙ queues_of_own c.update.new.lanes _ c.update.ensures.own ∙ ap (map queue_of) c.deref_mut.ensures.value) refl;

@@ -16,15 +16,15 @@ pub bounds-firsts-own : goal.bounds-firsts-own
 bounds-firsts-own g c = omega (arith, c.requires.may.at.cpu, c.requires.many)
 
 pub overflow_cast-count : goal.overflow_cast-count
-overflow_cast-count g c = omega (arith, c.len-count.ensures, c.args.core.now.lanes.ok.0, c.args.core.now.few)
+overflow_cast-count g c = omega (arith, c.len-count.ensures, c.args.core.now.few)
 
 pub overflow_add-own : goal.overflow_add-own
 overflow_add-own g c = omega (arith, c.requires.may.at.cpu, c.args.core.now.few)
 
 pub ask_from-behind-requires-clause-part : goal.ask_from-behind-requires-clause-part
 ask_from-behind-requires-clause-part g c = record {
-  order = omega (arith, c.len-count.ensures, c.args.core.now.lanes.ok.0, c.requires.may.at.cpu);
-  within = omega (arith, c.len-count.ensures, c.args.core.now.lanes.ok.0);
+  order = omega (arith, c.len-count.ensures, c.requires.may.at.cpu);
+  within = omega (arith, c.len-count.ensures);
   may = λ cpu below. record { at = record { cpu = below; agree = c.requires.may.at.agree }; low = c.requires.may.low };
 }
 
@@ -40,7 +40,7 @@ returns-clause-counted g c longest longer =
     let own = c.args.own in
     let most = g.Q.SiblingQueue.most_compared longest in
     let whole : own - 0 ≡ own = omega arith in
-    let count : c.len-count.result ≡ length c.args.core.now.lanes.items = c.len-count.ensures ∙ c.args.core.now.lanes.ok.0 in
+    let count : c.len-count.result ≡ length c.args.core.now.lanes.items = c.len-count.ensures in
     all_but_own own (length c.args.core.now.lanes.items) c.args.steps.now c.ask_from-behind.new.steps c.ask_from-lead.new.steps most c.requires.may.at.cpu
     (subst (λ n. c.ask_from-behind.new.steps ≤ c.args.steps.now + (n - (own + 1)) * most) count (c.ask_from-behind.ensures.counted longest longer))
     (subst (λ n. c.ask_from-lead.new.steps ≤ c.ask_from-behind.new.steps + n * most) whole (c.ask_from-lead.ensures.counted longest longer))
@@ -52,7 +52,7 @@ returns-clause-asks g c = record {
       let room = room_of beside (c.args.core.now, c.args.table.now) in
       let lanes = c.args.core.now.lanes.items in
       let many : length c.ask_from-lead.new.firsts ≡ length room.siblings = omega (arith, c.ask_from-lead.auto.firsts, c.ask_from-behind.auto.firsts, c.requires.many, length-set c.args.firsts.now c.args.own c.args.first.now.choice, length-map lanes lane_state) in
-      let count : c.len-count.result ≡ length room.siblings = c.len-count.ensures ∙ c.args.core.now.lanes.ok.0 ∙ sym (length-map lanes lane_state) in
+      let count : c.len-count.result ≡ length room.siblings = c.len-count.ensures ∙ sym (length-map lanes lane_state) in
       let inside : own < length c.args.firsts.now = omega (arith, c.requires.may.at.cpu, c.requires.many) in
       let first = ap (λ (first : First). first.choice) (c.requires.first beside) in
       noted_all room c.ask_from-lead.new.firsts many (λ cpu below. elim (cases_lt cpu own) [
@@ -66,7 +66,7 @@ returns-clause-asks g c = record {
       let own = c.args.own in
       let room = room_of beside (c.args.core.now, c.args.table.now) in
       let whole : own - 0 ≡ own = omega arith in
-      let count : c.len-count.result ≡ length room.siblings = c.len-count.ensures ∙ c.args.core.now.lanes.ok.0 ∙ sym (length-map c.args.core.now.lanes.items lane_state) in
+      let count : c.len-count.result ≡ length room.siblings = c.len-count.ensures ∙ sym (length-map c.args.core.now.lanes.items lane_state) in
       let from : suc (c.len-count.result - (own + 1)) ≡ length room.siblings - own = omega (arith, count, c.requires.may.at.cpu, length-map c.args.core.now.lanes.items lane_state) in
       let offer = c.lead_alone-offer.ensures c.args.table.now c.requires.first beside in
       ap (λ (first : First). first.choice.cookie) (c.ask_from-lead.ensures.asks.lead beside (own ∷ range_with_len (own + 1) (c.len-count.result - (own + 1))) (c.ask_from-behind.ensures.asks.lead beside (own ∷ []) offer))

@@ -16,7 +16,7 @@ returns-then-other-cpu-clause-lowest g c beside table =
     let core = c.args.core.now in
     let lanes = core.lanes.items in
     let other = c.loop-other.other in
-    let below : other < length lanes = omega (arith, c.loop-other-test.true, c.len-other-end.ensures, core.lanes.ok.0) in
+    let below : other < length lanes = omega (arith, c.loop-other-test.true, c.len-other-end.ensures) in
     let on = online_is beside (core, table) other c.index.result.now below c.index.ensures ∙ c.if-index.true in
     let differs = ne_eqb other c.args.cpu c.if-other-cpu.true in
     sym (first_found (is_other (room_of beside (core, table)) c.args.cpu) other (length (map lane_state lanes)) (omega (arith, below, length-map lanes lane_state))
@@ -27,7 +27,7 @@ loop-other-preserved g c =
     let core = c.args.core.now in
     let lanes = core.lanes.items in
     let other = c.loop-other.other in
-    let below : other < length lanes = omega (arith, c.loop-other-test.true, c.len-other-end.ensures, core.lanes.ok.0) in
+    let below : other < length lanes = omega (arith, c.loop-other-test.true, c.len-other-end.ensures) in
     let on : (beside : Beside) (table : Table) → is_online (room_of beside (core, table)) other ≡ c.index.result.now.online =
     λ beside table. online_is beside (core, table) other c.index.result.now below c.index.ensures in
     let fails : (beside : Beside) (table : Table) → is_other (room_of beside (core, table)) c.args.cpu other ≡ false = λ beside table. elim c.else-index.branch [
@@ -42,6 +42,6 @@ returns-clause-lowest g c beside table =
     let core = c.args.core.now in
     let lanes = core.lanes.items in
     let all : length (map lane_state lanes) ≡ c.loop-other.other =
-    omega (arith, c.loop-other-test.false, c.loop-other.auto.other-end, c.len-other-end.ensures, core.lanes.ok.0, length-map lanes lane_state) in
+    omega (arith, c.loop-other-test.false, c.loop-other.auto.other-end, c.len-other-end.ensures, length-map lanes lane_state) in
     sym (ap (λ n. unwrap_or (find (is_other (room_of beside (core, table)) c.args.cpu) (range_with_len 0 n)) 0) all
     ∙ ap (λ found. unwrap_or found 0) (c.loop-other.invariant.none beside table))

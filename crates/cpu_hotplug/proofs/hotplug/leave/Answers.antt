@@ -1,7 +1,7 @@
 use Rattle.std.proofs.Common.{arith, subst, ◌≤◌, ◌≡◌, ◌≢◌, ◌*◌, ◌∙◌, ap, sym, map, length, refl}
 use Rattle.std.specs.Prelude.{List}
 use Rattle.std.specs.List.{enumerate_from}
-use Rattle.std.proofs.lemmas.List.{with_items_is}
+use Rattle.bounded_list.proofs.Items.{with_items_is}
 use Rattle.cs_types.specs.Room.{RoomState}
 use Rattle.cs_types.specs.Accounting.{charge, without_interval}
 use Rattle.cs_types.specs.Hotplug.{lowest_other, move_off, left, leave}
@@ -40,7 +40,7 @@ invariant_of-core g c = record { few = c.charge.new.core.few }
 pub invariant_of-core-2 : goal.invariant_of-core-2
 invariant_of-core-2 g c =
     let moved = c.move_off.new.core in
-    let kept = with_items_is moved.lanes c.set_one_away.new.lanes (c.set_one_away.auto.lanes ∙ ap length c.deref_mut.ensures.value ∙ sym moved.lanes.ok.0) in
+    let kept = with_items_is moved.lanes c.set_one_away.new.lanes (c.set_one_away.auto.lanes ∙ ap length c.deref_mut.ensures.value) in
     record { few = omega (arith, ap length kept, c.set_one_away.auto.lanes, ap length c.deref_mut.ensures.value, moved.few) }
 
 -- ---- the room
@@ -51,7 +51,7 @@ returns-clause-touches g c =
     let cpu = c.args.cpu in
     let moved = c.move_off.new.core in
     let account = c.close.new.self in
-    let kept = with_items_is moved.lanes c.set_one_away.new.lanes (c.set_one_away.auto.lanes ∙ ap length c.deref_mut.ensures.value ∙ sym moved.lanes.ok.0) in
+    let kept = with_items_is moved.lanes c.set_one_away.new.lanes (c.set_one_away.auto.lanes ∙ ap length c.deref_mut.ensures.value) in
     record {
       room = λ beside.
           let room = room_of (at c.args.now beside) (c.args.core.now, c.args.table.now) in

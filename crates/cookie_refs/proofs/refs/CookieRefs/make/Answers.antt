@@ -1,5 +1,5 @@
 use Rattle.std.proofs.Common.{◌+◌, ◌<◌, ◌∙◌, length, sym, ap, cond, arith}
-use Rattle.std.specs.Prelude.{◌==◌, vec_len, vec_capacity}
+use Rattle.std.specs.Prelude.{◌==◌}
 use Rattle.std.proofs.lemmas.List.Elements.{All-push, All-weaker}
 use Rattle.std.proofs.lemmas.List.Quantifiers.{all_pairs_push}
 use Rattle.cookie_refs.specs.declared.refs.CookieCount.{CookieCount}
@@ -34,10 +34,10 @@ pub invariant_of-self : goal.invariant_of-self
 invariant_of-self c =
     let sound = c.self.invariant in
     let next = c.self.inside.next in
-    let full = vec_len c.self.inside.cookies == vec_capacity c.self.inside.cookies in
+    let full = length c.self.inside.cookies.items == c.self.inside.cookies.room in
     let cookies = c.self.inside.cookies.items in
     let left = kept full cookies in
-    let more = rw c.take_out_ended.ensures.items at c.push_reserved.ensures.items in
+    let more = rw c.take_out_ended.ensures.items at c.push.ensures.items in
     let lower : (one : CookieCount) → one.cookie < next → one.cookie < next + 1 = λ one lt. omega arith in
     let below = All-kept full cookies (λ one. one.cookie < next) sound.below_next in
     let new : CookieCount = record { cookie = next; count = 1 } in
@@ -62,13 +62,13 @@ pub returns-clause-counts : goal.returns-clause-counts
 returns-clause-counts c cookie =
     let sound = c.self.invariant in
     let next = c.self.inside.next in
-    let full = vec_len c.self.inside.cookies == vec_capacity c.self.inside.cookies in
+    let full = length c.self.inside.cookies.items == c.self.inside.cookies.room in
     let cookies = c.self.inside.cookies.items in
     let left = kept full cookies in
     let new : CookieCount = record { cookie = next; count = 1 } in
     let below = All-kept full cookies (λ one. one.cookie < next) sound.below_next in
     let rising = all_pairs_push (λ (one other : CookieCount). one.cookie < other.cookie) left new (rising-kept full cookies sound.rising) below in
-    rw (c.push_reserved.ensures.items, c.take_out_ended.ensures.items, ← c.self.view_is)
+    rw (c.push.ensures.items, c.take_out_ended.ensures.items, ← c.self.view_is)
     (count-entries _ rising cookie
     ∙ count_in-push left next cookie (count_in-next left next below)
     ∙ ap (cond (cookie == next) 1) (count_in-kept full cookies cookie ∙ sym (count-entries cookies sound.rising cookie)))

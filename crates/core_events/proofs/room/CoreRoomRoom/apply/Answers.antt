@@ -42,7 +42,7 @@ ready_of {Q} a is spare =
     let past = a.entries.items in
     let tasks = is.playable.few_tasks in
     let most = is.playable.task_limit.1 in
-    let few : length past ≤ 100256 = omega (arith, a.entries.ok.0, is.few_entries, most_entries-le a.scenario.value is.playable) in
+    let few : length past ≤ 100256 = omega (arith, is.few_entries, most_entries-le a.scenario.value is.playable) in
     let living : length a.state.tasks.tasks ≤ 256 = omega (arith, ap (λ (room : RoomState). length room.tasks) is.fold, few-fold_of opening past tasks, most) in
     let clock : a.state.clock ≤ 100256 * 1000000000 = omega (arith, is.slow, few) in
     let legal = subst (IsLegal opening) (sym is.history) (IsLegal-history_of opening _) in
@@ -70,18 +70,16 @@ ready_of {Q} a is spare =
       spares = record {
         touches = omega (arith, task_number-ledger_of opening past tasks most, ap (λ (numbers : Numbers). numbers.task) is.numbers, few, living, most);
         stamps = omega (arith, next_stamp-fold_of opening past tasks most, ap (λ (room : RoomState). room.next_stamp) is.fold, few, living, most);
-        serial = omega (arith, next_cookie-fold_of opening past tasks most, ap (λ (room : RoomState). room.next_cookie) is.fold, a.entries.ok.0);
+        serial = omega (arith, next_cookie-fold_of opening past tasks most, ap (λ (room : RoomState). room.next_cookie) is.fold);
         pid = omega (arith, next_pid-fold_of opening past tasks most, ap (λ (room : RoomState). room.next_pid) is.fold, first_pid-low a.scenario.value is.playable, few);
         ended = omega (
           arith,
           ended-fold_of opening past tasks most,
           ap (λ (room : RoomState). length room.ended) is.fold,
           length-map a.state.ended.items (λ (one : ℕ × ℕ). one.0),
-          a.entries.ok.0,
           spare,
           is.ends,
           is.few_entries,
-          a.state.ended.ok.0,
         );
         places = All-weaker (λ (lane : Lane Q). lane.place ≤ length past) (λ (lane : Lane Q). lane.place + 1 < 2 ^ 32)
             (λ lane low. omega (arith, low, few)) a.state.core.lanes.items
@@ -117,7 +115,7 @@ invariant_of-self g c =
     let reply = reply_more (opening_of a) a.state c.counted-reply.new.state a.entries.items c.args.event c.counted-reply.result so_far (c.counted-reply.ensures.step (fold_of (opening_of a) a.entries.items).intervals) in
     let folds = folds_more (opening_of a) a.state c.counted-reply.new.state a.entries.items entry limits so_far (c.counted-reply.ensures.step (fold_of (opening_of a) a.entries.items).intervals) in
     let items = noted a.entries.items c.push_reserved.new.self.items c.len-place.result (record { actor = c.args.actor; event = c.args.event; reply = Nothing }) c.index_mut.result.now c.counted-reply.result
-    c.push_reserved.ensures.items (omega (arith, c.len-place.ensures, a.entries.ok.0)) c.index_mut.ensures.value in
+    c.push_reserved.ensures.items (omega (arith, c.len-place.ensures)) c.index_mut.ensures.value in
     record {
       playable = c.self.invariant.playable;
       events = rw items (All-push (λ (e : Entry). IsEvent a.scenario.value.siblings e.event) a.entries.items entry c.self.invariant.events limits);
@@ -153,7 +151,7 @@ returns-clause-entry g c =
     let so_far = folds_of a c.self.invariant in
     let reply = reply_more (opening_of a) a.state c.counted-reply.new.state a.entries.items c.args.event c.counted-reply.result so_far (c.counted-reply.ensures.step (fold_of (opening_of a) a.entries.items).intervals) in
     let items = noted a.entries.items c.push_reserved.new.self.items c.len-place.result (record { actor = c.args.actor; event = c.args.event; reply = Nothing }) c.index_mut.result.now c.counted-reply.result
-    c.push_reserved.ensures.items (omega (arith, c.len-place.ensures, a.entries.ok.0)) c.index_mut.ensures.value in
+    c.push_reserved.ensures.items (omega (arith, c.len-place.ensures)) c.index_mut.ensures.value in
     rw items
     (sym (history_more (opening_of a) a.entries.items entry c.self.invariant.history reply)
     ∙ ap (λ h. h ++ entry ∷ []) (c.self.invariant.history ∙ ap (λ (m : Machine). history_of m.opening m.steps) c.self.view_is))

@@ -1,7 +1,7 @@
 use Rattle.std.proofs.Common.{◌≡◌, ◌≢◌, ◌<◌, map, List, inl, inr, sym, subst, ap, ◌∙◌, length, arith}
 use Rattle.std.specs.Prelude.{slice_get, ◌==◌}
-use Rattle.std.specs.Global.{Vec}
-use Rattle.std.specs.Vec.{with_items}
+use Rattle.bounded_list.specs.Bounded.{Bounded, with_items}
+use Rattle.bounded_list.proofs.Items.{with_items_is}
 use Rattle.std.proofs.lemmas.Bool.{cases_Bool, eqb-true, eqb-false}
 use Rattle.std.proofs.lemmas.List.{map-set, length-map}
 use Rattle.std.proofs.Math.ListN.{length-set}
@@ -9,16 +9,15 @@ use Rattle.std.proofs.Math.Seq.{map-set_same}
 use Rattle.core_lanes.specs.Queued.{queued_at}
 use Rattle.core_lanes.specs.Lanes.{lane_state, bare}
 use Rattle.core_lanes.specs.declared.lane.Lane.{Lane}
-use Rattle.core_lanes.proofs.Lists.{items-as_many}
 use Rattle.core_lanes.proofs.Stays.{number_of, queue_of, queue_at}
 use Rattle.core_lanes.proofs.Queues.{held-set}
 use Rattle.core_lanes.proofs.Counted.{of_one}
 use Rattle.core_lanes.proofs.lanes.Core.exchange.Goals as goal
 
 -- what was written over all siblings is what is there, where it says the same of each
-written : {Q : Type 0} (lanes : Vec (Lane Q)) (was now : List (Lane Q)) → was ≡ lanes.items → map lane_state now ≡ map lane_state was → (with_items lanes now).items ≡ now
+written : {Q : Type 0} (lanes : Bounded (Lane Q)) (was now : List (Lane Q)) → was ≡ lanes.items → map lane_state now ≡ map lane_state was → (with_items lanes now).items ≡ now
 written lanes was now are states =
-    items-as_many lanes now (sym (length-map now lane_state) ∙ ap length states ∙ length-map was lane_state ∙ ap length are)
+    with_items_is lanes now (sym (length-map now lane_state) ∙ ap length states ∙ length-map was lane_state ∙ ap length are)
 
 pub swap_queues-requires-clause-within : goal.swap_queues-requires-clause-within
 swap_queues-requires-clause-within g c =
@@ -26,7 +25,7 @@ swap_queues-requires-clause-within g c =
     (subst (λ n. c.args.from < n) many c.requires.cpu, subst (λ n. c.args.to < n) many c.requires.other)
 
 pub index_mut-requires : goal.index_mut-requires
-index_mut-requires g c = omega (arith, c.args.self.now.lanes.ok.0, c.requires.other)
+index_mut-requires g c = omega (arith, c.requires.other)
 
 pub renew-requires : goal.renew-requires
 renew-requires g c =

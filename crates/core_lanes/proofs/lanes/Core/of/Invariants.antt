@@ -1,5 +1,5 @@
 use Rattle.std.proofs.Common.{◌≡◌, ℕ, ◌≤◌, Some, []}
-use Rattle.std.specs.Prelude.{slice_get, vec_capacity, vec_len, replicate, map}
+use Rattle.std.specs.Prelude.{slice_get, length, replicate, map}
 use Rattle.cs_types.specs.Room.{idle}
 use Rattle.core_lanes.specs.Lanes.{lane_state}
 use Rattle.core_lanes.proofs.Stays.{number_of, queue_of}
@@ -7,10 +7,10 @@ use Rattle.core_lanes.proofs.lanes.Core.of.Given as goal
 
 abbrev pub invariant-loop : goal.invariant-loop
 invariant-loop g l = record {
-  some : vec_len l.lanes ≤ l.siblings;
-  spare : l.siblings ≤ vec_capacity l.lanes;
-  counted : vec_len l.lanes ≡ l.counter;
-  states : map lane_state l.lanes.items ≡ replicate (vec_len l.lanes) idle;
-  numbers : map number_of l.lanes.items ≡ replicate (vec_len l.lanes) 0;
+  some : length l.lanes.items ≤ l.siblings;
+  spare : l.siblings ≤ l.lanes.room;
+  counted : length l.lanes.items ≡ l.counter;
+  states : map lane_state l.lanes.items ≡ replicate (length l.lanes.items) idle;
+  numbers : map number_of l.lanes.items ≡ replicate (length l.lanes.items) 0;
   held : (cpu : ℕ) (queue : _) → slice_get (map queue_of l.lanes.items) cpu ≡ Some queue → g.Q.SiblingQueue.holds queue l.tasks [];
 }

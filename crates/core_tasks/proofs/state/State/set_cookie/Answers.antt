@@ -1,7 +1,7 @@
 use Rattle.std.proofs.Common.{◌≢◌, ◌≡◌, ◌≤◌, ◌∙◌, ◌+◌, refl, sym, ap, subst, map, length, arith}
 use Rattle.std.specs.Prelude.{All}
-use Rattle.std.specs.Vec.{with_items}
-use Rattle.std.proofs.lemmas.List.{with_items_is}
+use Rattle.bounded_list.specs.Bounded.{with_items}
+use Rattle.bounded_list.proofs.Items.{with_items_is}
 use Rattle.cs_types.specs.declared.task.Task.{Task}
 use Rattle.cookie_refs.specs.Refs.{AgreeBut}
 use Rattle.cookie_refs.proofs.Agreements.{AgreeBut-with_cookie, held_cookie_is_live, own_cookie_is_live, count_of-le}
@@ -42,7 +42,7 @@ returns-clause-sets g c =
     let raised = c.flag_home.new.lanes in
     let as_many = c.flag_home.auto.lanes ∙ ap length c.deref_mut.ensures.value in
     let after = (with_items mid.lanes raised).items in
-    let kept : after ≡ raised = with_items_is mid.lanes raised (as_many ∙ sym mid.lanes.ok.0) in
+    let kept : after ≡ raised = with_items_is mid.lanes raised as_many in
     let flags : map lane_state after ≡ map (flagged_for pid) (map lane_state mid.lanes.items) =
     ap (map lane_state) kept ∙ c.flag_home.ensures.states ∙ ap (λ lanes. map (flagged_for pid) (map lane_state lanes)) c.deref_mut.ensures.value in
     let own : map number_of after ≡ map number_of mid.lanes.items =
@@ -120,7 +120,7 @@ pub invariant_of-self-2 : goal.invariant_of-self-2
 invariant_of-self-2 g c =
     let mid = c.set_cookie.new.self in
     let as_many = c.flag_home.auto.lanes ∙ ap length c.deref_mut.ensures.value in
-    record { few = subst (λ n. n ≤ 16) (sym (ap length (with_items_is mid.lanes c.flag_home.new.lanes (as_many ∙ sym mid.lanes.ok.0)) ∙ as_many)) mid.few }
+    record { few = subst (λ n. n ≤ 16) (sym (ap length (with_items_is mid.lanes c.flag_home.new.lanes as_many) ∙ as_many)) mid.few }
 
 pub returns-clause-counted : goal.returns-clause-counted
 returns-clause-counted g c = c.set_cookie.ensures.counted

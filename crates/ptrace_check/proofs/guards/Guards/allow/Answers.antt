@@ -11,7 +11,7 @@ ask-requires-clause-active g c =
     let first = guards_in c.self.inside.seats.items c.self.inside.active.items in
     let position = c.loop-position.position in
     let index = c.index-index.result.now in
-    let within : position < length c.self.inside.active.items = omega (arith, c.self.inside.active.ok.0) in
+    let within : position < length c.self.inside.active.items = omega arith in
     let is = rw c.loop-position.invariant.active at c.index-index.ensures in
     let same = ap (λ (guards : GuardList). guard_of guards index) c.loop-position.invariant.asked ∙ unasked_at first _ position index c.self.invariant within is in
     ap (λ (guard : GuardState). is_active guard.place) same ∙ active_at first _ position index c.self.invariant within is
@@ -21,7 +21,7 @@ ask-requires-clause-count g c =
     let first = guards_in c.self.inside.seats.items c.self.inside.active.items in
     let position = c.loop-position.position in
     let index = c.index-index.result.now in
-    let within : position < length c.self.inside.active.items = omega (arith, c.self.inside.active.ok.0) in
+    let within : position < length c.self.inside.active.items = omega arith in
     let is = rw c.loop-position.invariant.active at c.index-index.ensures in
     let same = ap (λ (guards : GuardList). guard_of guards index) c.loop-position.invariant.asked ∙ unasked_at first _ position index c.self.invariant within is in
     let few = rw (← c.self.view_is) at c.requires.asked in
@@ -34,7 +34,7 @@ loop-position-preserved g c =
     let position = c.loop-position.position in
     let index = c.index-index.result.now in
     let pair : ℕ × ℕ = (c.args.from, c.args.to) in
-    let within : position < length active = omega (arith, c.self.inside.active.ok.0) in
+    let within : position < length active = omega arith in
     let is = rw c.loop-position.invariant.active at c.index-index.ensures in
     let same = ap (λ (guards : GuardList). guard_of guards index) c.loop-position.invariant.asked ∙ unasked_at first _ position index c.self.invariant within is in
     let allows = ap (λ (guard : GuardState). not (refuses guard pair)) (sym same) ∙ sym c.ask.ensures.decision ∙ c.if-not-ask.false in
@@ -71,7 +71,7 @@ returns-then-not-ask-clause-decision g c =
     let position = c.loop-position.position in
     let index = c.index-index.result.now in
     let pair : ℕ × ℕ = (c.args.from, c.args.to) in
-    let within : position < length active = omega (arith, c.self.inside.active.ok.0) in
+    let within : position < length active = omega arith in
     let is = rw c.loop-position.invariant.active at c.index-index.ensures in
     let same = ap (λ (guards : GuardList). guard_of guards index) c.loop-position.invariant.asked ∙ unasked_at first _ position index c.self.invariant within is in
     let refused = not-false (refuses (guard_of first index) pair) (ap (λ (guard : GuardState). not (refuses guard pair)) (sym same) ∙ sym c.if-not-ask.ensures.decision) in
@@ -84,7 +84,7 @@ returns-then-not-ask-clause-asked g c =
     let position = c.loop-position.position in
     let index = c.index-index.result.now in
     let pair : ℕ × ℕ = (c.args.from, c.args.to) in
-    let within : position < length active = omega (arith, c.self.inside.active.ok.0) in
+    let within : position < length active = omega arith in
     let is = rw c.loop-position.invariant.active at c.index-index.ensures in
     let same = ap (λ (guards : GuardList). guard_of guards index) c.loop-position.invariant.asked ∙ unasked_at first _ position index c.self.invariant within is in
     let refused = not-false (refuses (guard_of first index) pair) (ap (λ (guard : GuardState). not (refuses guard pair)) (sym same) ∙ sym c.if-not-ask.ensures.decision) in
@@ -99,7 +99,7 @@ returns-clause-asked g c =
     let active = c.self.inside.active.items in
     let first = guards_in c.self.inside.seats.items active in
     let pair : ℕ × ℕ = (c.args.from, c.args.to) in
-    let all : take c.loop-position.position active ≡ active = take_all c.loop-position.position active (omega (arith, c.self.inside.active.ok.0)) in
+    let all : take c.loop-position.position active ≡ active = take_all c.loop-position.position active (omega arith) in
     let allowed = rw all at c.loop-position.invariant.allowed in
     rw (← c.self.view_is, c.loop-position.invariant.active)
     (c.loop-position.invariant.asked
@@ -110,7 +110,7 @@ returns-then-not-ask-clause-caps g c = rw (← c.self.view_is) (c.ask.ensures.ca
 
 pub returns-clause-decision : goal.returns-clause-decision
 returns-clause-decision g c =
-    let all = take_all c.loop-position.position c.self.inside.active.items (omega (arith, c.self.inside.active.ok.0)) in
+    let all = take_all c.loop-position.position c.self.inside.active.items (omega arith) in
     rw (← c.self.view_is) (sym (rw all at c.loop-position.invariant.allowed))
 
 pub returns-clause-caps : goal.returns-clause-caps

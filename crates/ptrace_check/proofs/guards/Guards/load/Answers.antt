@@ -1,23 +1,20 @@
 use Rattle.std.proofs.Common.{◌≡◌, ◌∷◌, ◌++◌, [], length, refl, ap, ◌∙◌, sym}
 use Rattle.ptrace_check.specs.Answers.{load_answer}
 use Rattle.ptrace_check.proofs.Seats.{guard_in, past_from, caps-set_alike}
-use Rattle.ptrace_check.proofs.Loads.{load_adds, load_keeps, load_stays, load_refused, load_answer-past, load-past, AreKept-more, room_to_load}
+use Rattle.ptrace_check.proofs.Loads.{load_adds, load_keeps, load_stays, load_refused, load_answer-past, load-past, room_to_load}
 use Rattle.ptrace_check.proofs.guards.Guards.load.Goals as goal
 
-pub unwrap-requires : goal.unwrap-requires
-unwrap-requires g c =
-    c.push.ensures.succeeds
-    (rw c.self.inside.active.ok.0
-    (room_to_load c.self.inside.seats.items c.self.inside.active.items _ c.args.index c.in-Some.seat.now c.in-Some.ensures.item.3.0 c.in-Some.ensures.value c.in-Loaded.ensures.answer c.self.invariant))
+pub push-requires : goal.push-requires
+push-requires g c = record {
+  room = room_to_load c.self.inside.seats.items c.self.inside.active.items _ c.args.index c.in-Some.seat.now c.in-Some.ensures.item.3.0 c.in-Some.ensures.value c.in-Loaded.ensures.answer c.self.invariant;
+}
 
 pub invariant_of-self-in-Loaded : goal.invariant_of-self-in-Loaded
 invariant_of-self-in-Loaded g c =
     let seats = c.self.inside.seats.items in
     let active = c.self.inside.active.items in
-    let pushed : c.push.new.self.items ≡ active ++ c.args.index ∷ [] = rw c.unwrap.ensures at c.push.ensures.items in
-    rw pushed
-    (AreKept-more _ _ _ c.push.ensures.capacity
-    (load_keeps seats active _ c.args.index c.in-Some.seat.now c.load-answer.new.self c.in-Some.ensures.item.3.0 c.in-Some.ensures.value c.in-Loaded.ensures.answer c.in-Loaded.ensures.guard c.self.invariant))
+    rw (c.push.ensures.items, c.push.ensures.room)
+    (load_keeps seats active _ c.args.index c.in-Some.seat.now c.load-answer.new.self c.in-Some.ensures.item.3.0 c.in-Some.ensures.value c.in-Loaded.ensures.answer c.in-Loaded.ensures.guard c.self.invariant)
 
 pub invariant_of-self-in_default-answer : goal.invariant_of-self-in_default-answer
 invariant_of-self-in_default-answer g c =
@@ -29,8 +26,7 @@ pub returns-in-Loaded-clause-guards : goal.returns-in-Loaded-clause-guards
 returns-in-Loaded-clause-guards g c =
     let seats = c.self.inside.seats.items in
     let active = c.self.inside.active.items in
-    let pushed : c.push.new.self.items ≡ active ++ c.args.index ∷ [] = rw c.unwrap.ensures at c.push.ensures.items in
-    rw (← c.self.view_is, pushed)
+    rw (← c.self.view_is, c.push.ensures.items)
     (load_adds seats active c.args.index c.in-Some.seat.now c.load-answer.new.self c.in-Some.ensures.item.3.0 c.in-Some.ensures.value c.in-Loaded.ensures.answer c.in-Loaded.ensures.guard)
 
 pub returns-in-Loaded-clause-caps : goal.returns-in-Loaded-clause-caps
@@ -57,13 +53,13 @@ invariant_of-self g c = c.self.invariant
 pub returns-in_default-clause-answer : goal.returns-in_default-clause-answer
 returns-in_default-clause-answer g c =
     let seats = c.self.inside.seats in
-    let past = past_from c.args.index seats.len (length seats.items) seats.ok.0 c.in_default.ensures.variant.1 in
+    let past = past_from c.args.index (length seats.items) (length seats.items) refl c.in_default.ensures.variant.1 in
     rw (← c.self.view_is) (load_answer-past seats.items c.self.inside.active.items c.args.index past)
 
 pub returns-in_default-clause-guards : goal.returns-in_default-clause-guards
 returns-in_default-clause-guards g c =
     let seats = c.self.inside.seats in
-    let past = past_from c.args.index seats.len (length seats.items) seats.ok.0 c.in_default.ensures.variant.1 in
+    let past = past_from c.args.index (length seats.items) (length seats.items) refl c.in_default.ensures.variant.1 in
     rw (← c.self.view_is) (load-past seats.items c.self.inside.active.items c.args.index past)
 
 pub returns-in_default-clause-caps : goal.returns-in_default-clause-caps

@@ -41,7 +41,7 @@ invariant_of-self g c = c.self.invariant
 pub returns-in_default-clause-answer : goal.returns-in_default-clause-answer
 returns-in_default-clause-answer g c =
     let seats = c.self.inside.seats in
-    let past = past_from c.args.index seats.len (length seats.items) seats.ok.0 c.in_default.ensures.variant.1 in
+    let past = past_from c.args.index (length seats.items) (length seats.items) refl c.in_default.ensures.variant.1 in
     rw (← c.self.view_is) (ap (λ (guard : GuardState). not (is_bench guard.place)) (guard_past seats.items c.self.inside.active.items c.args.index past))
 
 pub returns-in_default-clause-taught : goal.returns-in_default-clause-taught
