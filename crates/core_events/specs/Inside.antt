@@ -1,5 +1,5 @@
 -- Inside: what the machine keeps, and that it is the fold of its history.
-use Rattle.std.specs.Prelude.{◌≡◌, ℕ, ◌+◌, ◌-◌, ◌*◌, ◌≤◌, List, length, map, vec_len, vec_capacity}
+use Rattle.std.specs.Prelude.{◌≡◌, ℕ, ◌+◌, ◌-◌, ◌*◌, ◌≤◌, List, length, map}
 use Rattle.cs_types.specs.declared.event.Step.{Step}
 use Rattle.cs_types.specs.declared.reply.Entry.{Entry}
 use Rattle.cs_types.specs.declared.scenario.Scenario.{Scenario}
@@ -25,7 +25,7 @@ machine_of room =
     record {
       opening = opening_of room;
       steps = steps_of room.entries.items;
-      spare = vec_capacity room.entries - vec_len room.entries;
+      spare = room.entries.room - length room.entries.items;
     }
 
 -- how many entries a machine may make: the steps of the scenario, and those of the end
@@ -44,7 +44,8 @@ pub record IsFold {Q G : Type 0} {g : Ghosts Q} (room : Inside Q G g) : Type 0 w
   pub count : room.siblings ≡ room.scenario.value.siblings
   pub siblings : length room.state.core.lanes.items ≡ room.scenario.value.siblings
   -- no advance is above one second
-  pub slow : room.state.clock ≤ 1000000000 * vec_len room.entries
-  -- so no stamp, cookie, number or time overflows, and no task that ends takes memory
-  pub few_entries : vec_capacity room.entries ≤ most_entries room.scenario.value
-  pub ends : vec_capacity room.state.ended ≡ most_entries room.scenario.value
+  pub slow : room.state.clock ≤ 1000000000 * length room.entries.items
+  -- there is room for each entry, and for each task that ends; no stamp, cookie, number or time overflows
+  pub fits : length room.entries.items ≤ room.entries.room
+  pub few_entries : room.entries.room ≤ most_entries room.scenario.value
+  pub ends : room.state.ended.room ≡ most_entries room.scenario.value

@@ -1,5 +1,5 @@
 -- Ready: what an event asks of a state.
-use Rattle.std.specs.Prelude.{ℕ, ◌+◌, ◌*◌, ◌^◌, ◌<◌, List, [], length, All, IfSome, vec_len, vec_capacity}
+use Rattle.std.specs.Prelude.{ℕ, ◌+◌, ◌*◌, ◌^◌, ◌<◌, List, [], length, All, IfSome}
 use Rattle.cs_types.specs.Scenario.{IsEvent}
 use Rattle.cs_types.specs.declared.event.Event.{Event}
 use Rattle.cs_types.specs.Room.{Interval, sibling_of}
@@ -26,7 +26,7 @@ pub record HasSpares {Q G : Type 0} {g : Ghosts Q} (state : State Q G g) : Type 
   pub stamps : state.core.next_stamp + length state.tasks.tasks + 1 < 2 ^ 64
   pub serial : state.refs.next < 2 ^ 63
   pub pid : state.next_pid + 1 < 2 ^ 32
-  pub ended : vec_len state.ended < vec_capacity state.ended
+  pub ended : length state.ended.items < state.ended.room
   pub places : All (λ lane. lane.place + 1 < 2 ^ 32) state.core.lanes.items
   pub asked : All (λ guard. guard.asked < 2 ^ 62) state.guards.guards.all
 

@@ -11,6 +11,7 @@ ghost use Rattle.cs_types.specs.Opened.{MayStart, HasStarted};
 ghost use Rattle.core_events.specs.Ready.{IsReadyFor};
 
 use crate::events::apply;
+use bounded_list::BoundedList;
 use core_lanes::SiblingQueue;
 use core_tasks::{State, next_to_schedule};
 use cs_outside::Guard;
@@ -32,7 +33,7 @@ pub struct CoreRoom<Q: SiblingQueue, G: Guard> {
     /// How many guards were handed in, 0 to 16. Clauses alone read it, as a part of what the machine began with.
     guards: u8,
     state: State<Q, G>,
-    entries: Vec<Entry>,
+    entries: BoundedList<Entry>,
 }
 
 impl<Q: SiblingQueue, G: Guard> Model for CoreRoom<Q, G> {
@@ -103,7 +104,7 @@ impl<Q: SiblingQueue, G: Guard> CoreRoom<Q, G> {
         ensures { IfOk result (λ room. HasStarted scenario.now guards.guards room.opening (history_of room.opening room.steps) room.spare) }
     {
         let most = most_entries(scenario);
-        let entries = Vec::with_capacity(alloc, most)?;
+        let entries = BoundedList::with_room(alloc, most)?;
         let count = guards.len();
         let state = State::start(alloc, scenario, most, guards)?;
         Ok(CoreRoom {
@@ -131,7 +132,7 @@ impl<Q: SiblingQueue, G: Guard> Room for CoreRoom<Q, G> {
     fn apply(&mut self, actor: Actor, event: Event) -> Reply {
         // The entry is noted before its step is made, so that its event need not be kept meanwhile.
         let place = self.entries.len();
-        self.entries.push_reserved(Entry {
+        self.entries.push(Entry {
             actor,
             event,
             reply: Reply::Nothing,
@@ -154,7 +155,7 @@ impl<Q: SiblingQueue, G: Guard> Room for CoreRoom<Q, G> {
     }
 
     fn spare(&self) -> u64 {
-        (self.entries.capacity() - self.entries.len()) as u64
+        (self.entries.room() - self.entries.len()) as u64
     }
 
     fn length(&self) -> u64 {

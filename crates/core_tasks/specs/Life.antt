@@ -1,5 +1,5 @@
 -- Life: what an end asks, and what the making of a child leaves.
-use Rattle.std.specs.Prelude.{◌≡◌, ℕ, ◌+◌, ◌^◌, ◌<◌, Bool, true, false, List, vec_len, vec_capacity, find, Some, None, Result, Ok, Err}
+use Rattle.std.specs.Prelude.{◌≡◌, ℕ, ◌+◌, ◌^◌, ◌<◌, Bool, true, false, List, length, find, Some, None, Result, Ok, Err}
 use Rattle.cs_types.specs.declared.task.Task.{Task}
 use Rattle.cs_types.specs.Room.{Interval, has_pid}
 use Rattle.cs_types.specs.Step.{child_of, with_child, may_not_fork, has_threads}
@@ -17,7 +17,7 @@ pub record MayEnd {Q G : Type 0} {g : Ghosts Q} (task : Task) (state : State Q G
   pub sound : IsSound state
   pub alone : (intervals : List Interval) → has_threads (room_with intervals state) task ≡ false
   pub touches : state.core.task_number + 1 < 2 ^ 64
-  pub spare : vec_len state.ended < vec_capacity state.ended
+  pub spare : length state.ended.items < state.ended.room
 
 -- a child may be made: its pid does not overflow
 pub record MayMakeChild {Q G : Type 0} {g : Ghosts Q} (state : State Q G g) : Type 0 where

@@ -1,5 +1,5 @@
 -- Start: a table, a core with it, and a state before the first step.
-use Rattle.std.specs.Prelude.{◌≡◌, ℕ, List, [], length, vec_capacity}
+use Rattle.std.specs.Prelude.{◌≡◌, ℕ, List, [], length}
 use Rattle.cs_types.specs.declared.task.TaskSpec.{TaskSpec}
 use Rattle.cs_types.specs.declared.scenario.Scenario.{Scenario}
 use Rattle.cs_types.specs.Room.{Opening, asleep_tasks, start}
@@ -32,4 +32,4 @@ pub record IsFirstState {Q G : Type 0} {g : Ghosts Q} (opening : Opening) (most 
   pub sound : IsSound state
   pub siblings : length state.core.lanes.items ≡ opening.scenario.siblings
   pub numbers : state_numbers state ≡ numbers_at opening (beginning opening)
-  pub ends : vec_capacity state.ended ≡ most
+  pub ends : state.ended.room ≡ most

@@ -1,5 +1,5 @@
 -- State: the room that a state stands for, and what always holds of it.
-use Rattle.std.specs.Prelude.{◌≡◌, ◌≢◌, ℕ, ◌<◌, List, length, All, vec_capacity}
+use Rattle.std.specs.Prelude.{◌≡◌, ◌≢◌, ℕ, ◌<◌, List, length, All}
 use Rattle.cs_types.specs.Scenario.{IsWithin}
 use Rattle.cs_types.specs.declared.task.Task.{Task}
 use Rattle.cs_types.specs.Room.{RoomState, Interval}
@@ -70,7 +70,7 @@ IsSound state = IsSoundBut state 0
 pub record StaysBut {Q G : Type 0} {g : Ghosts Q} (held : ℕ) (old new : State Q G g) : Type 0 where
   pub sound : IsSoundBut old held → IsSoundBut new held
   pub siblings : length new.core.lanes.items ≡ length old.core.lanes.items
-  pub ends : vec_capacity new.ended ≡ vec_capacity old.ended
+  pub ends : new.ended.room ≡ old.ended.room
 
 abbrev pub Stays : {Q G : Type 0} {g : Ghosts Q} → State Q G g → State Q G g → Type 0
 Stays old new = StaysBut 0 old new

@@ -25,7 +25,7 @@ impl<Q: SiblingQueue, G: Guard> State<Q, G> {
         self.core
             .put_to_sleep(&mut self.tasks, task.spec.pid, steps);
         let (_, forced) = end_alone(&mut self.tasks, &mut self.refs, task.spec.pid);
-        self.ended.push_reserved((task.spec.pid, forced));
+        self.ended.push((task.spec.pid, forced));
     }
 
     /// A child of the caller is among the living, asleep at home.

@@ -5,6 +5,7 @@ ghost use Rattle.std.specs.Prelude.{IfOk};
 ghost use Rattle.cs_types.specs.Opened.{MayStart, opened};
 
 use crate::start::{core_and_tasks, first_pid};
+use bounded_list::BoundedList;
 use cookie_refs::CookieRefs;
 use core_lanes::{Core, SiblingQueue};
 use cs_outside::Guard;
@@ -29,7 +30,7 @@ pub struct State<Q: SiblingQueue, G: Guard> {
     /// The end of the user addresses, in bytes (`TASK_SIZE_MAX`).
     pub user_top: u64,
     /// The tasks that ended, in the order of their ends, each with what it was charged for forced idle, in ns.
-    pub ended: Vec<(Pid, u64)>,
+    pub ended: BoundedList<(Pid, u64)>,
     /// The pid of the next child (this project's). None is given twice.
     pub next_pid: Pid,
     /// The time since the start, in ns (`rq->clock`).
@@ -49,7 +50,7 @@ impl<Q: SiblingQueue, G: Guard> State<Q, G> {
         requires { MayStart scenario.now guards.guards }
         ensures { IfOk result (IsFirstState (opened scenario.now guards.guards) most) }
     {
-        let ended = Vec::with_capacity(alloc, most)?;
+        let ended = BoundedList::with_room(alloc, most)?;
         let refs = CookieRefs::with_limit(alloc, scenario.cookie_limit)?;
         let (core, tasks) = core_and_tasks(alloc, scenario)?;
         Ok(State {

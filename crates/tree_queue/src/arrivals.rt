@@ -6,6 +6,7 @@ ghost use Rattle.std.specs.List.{slice_index_or};
 ghost use Rattle.core_lanes.specs.Queued.{queued_among, mover_of, AreTold};
 ghost use Rattle.tree_queue.specs.Arrivals.{BeginsBelow};
 
+use bounded_list::BoundedList;
 use cs_types::{Cpu, OutOfMemory, Pid};
 use std::alloc::Global;
 use task_table::TaskTable;
@@ -14,12 +15,12 @@ use task_table::TaskTable;
 #[derive(Drop)]
 pub struct Arrivals {
     /// The pids of those that came all at once, by the last move.
-    moved: Vec<Pid>,
+    moved: BoundedList<Pid>,
     /// The stamp of the first of these. Those of the others follow in a row.
     base: u64,
     /// The stamps and the pids of those that came one by one since, by rising stamp. Of these the first may be lower than
     /// those of the moved ones: such a task was there before these, left and came back.
-    entries: Vec<(u64, Pid)>,
+    entries: BoundedList<(u64, Pid)>,
 }
 
 impl Arrivals {
@@ -27,17 +28,17 @@ impl Arrivals {
     /// one. This call alone takes memory.
     pub fn with_capacity(alloc: Global, most: u16) -> Result<Arrivals, OutOfMemory> {
         Ok(Arrivals {
-            moved: Vec::with_capacity(alloc, usize::from(most))?,
+            moved: BoundedList::with_room(alloc, usize::from(most))?,
             base: 0,
-            entries: Vec::with_capacity(alloc, 2 * usize::from(most))?,
+            entries: BoundedList::with_room(alloc, 2 * usize::from(most))?,
         })
     }
 
     /// A task came. Where there is no place for it, none of those that came one by one is kept any more.
     #[inline(always)]
     pub fn note(&mut self, stamp: u64, pid: Pid) {
-        if self.entries.len() < self.entries.capacity() {
-            self.entries.push_reserved((stamp, pid));
+        if self.entries.len() < self.entries.room() {
+            self.entries.push((stamp, pid));
             sift(&mut self.entries);
         } else {
             self.entries.clear();
@@ -59,12 +60,12 @@ impl Arrivals {
     }
 
     /// The tasks that were told moved, in that order, and the stamps that they have in the table are in a row. None
-    /// is kept where there are not places for all. It takes no memory.
+    /// is kept where there are not places for all.
     pub fn renew(&mut self, table: &TaskTable, movers: &[Pid]) {
         self.clear();
         self.base = first_stamp(table, movers);
-        if movers.len() <= self.moved.capacity() {
-            let _fits = self.moved.extend_from_slice(movers);
+        if movers.len() <= self.moved.room() {
+            self.moved.extend_from_slice(movers);
         }
     }
 

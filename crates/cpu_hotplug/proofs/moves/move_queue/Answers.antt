@@ -1,6 +1,6 @@
 use Rattle.std.proofs.Common.{Some, ◌≡◌, ◌+◌, ◌*◌, ◌<◌, ◌≤◌, ℕ, List, [], ◌≢◌, subst, sym, ap, ◌∙◌, arith, length, map}
 use Rattle.std.specs.Prelude.{slice_get}
-use Rattle.std.specs.Global.{Vec}
+use Rattle.bounded_list.specs.Bounded.{Bounded}
 use Rattle.task_table.specs.Table.{Table}
 use Rattle.cs_types.specs.declared.task.Task.{Task}
 use Rattle.cs_types.specs.declared.queue.Queued.{Queued}
@@ -56,7 +56,7 @@ module _ {Q : Type 0} {g : Ghosts Q} (core now : Core Q g) (table after : Table)
   room = room_of some_beside (core, table)
 
   at_before : (place : ℕ) (queue : Q) → slice_get (queues_of now) place ≡ Some queue → slice_get (queues_of core) place ≡ Some queue
-  at_before place queue at = ap (λ (ls : Vec (Lane Q)). slice_get (map queue_of ls.items) place) (sym lanes) ∙ at
+  at_before place queue at = ap (λ (ls : Bounded (Lane Q)). slice_get (map queue_of ls.items) place) (sym lanes) ∙ at
 
   holds_now : (queue : Q) (qs : List Queued) → g.holds queue table.limit qs → g.holds queue after.limit qs
   holds_now queue qs held = subst (λ n. g.holds queue n qs) (sym limit) held
@@ -66,8 +66,8 @@ module _ {Q : Type 0} {g : Ghosts Q} (core now : Core Q g) (table after : Table)
 
   may_exchange : MayExchange cpu to (now, after)
   may_exchange = record {
-    cpu = subst (λ (ls : Vec (Lane Q)). cpu < length ls.items) (sym lanes) cpu_in;
-    other = subst (λ (ls : Vec (Lane Q)). to < length ls.items) (sym lanes) to_in;
+    cpu = subst (λ (ls : Bounded (Lane Q)). cpu < length ls.items) (sym lanes) cpu_in;
+    other = subst (λ (ls : Bounded (Lane Q)). to < length ls.items) (sym lanes) to_in;
     two = two;
     full = λ queue at. record {
       table = apart.table;

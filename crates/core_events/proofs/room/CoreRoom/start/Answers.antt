@@ -1,4 +1,4 @@
-use Rattle.std.proofs.Common.{ap, subst, sym, ◌∙◌, arith, refl}
+use Rattle.std.proofs.Common.{length, ap, subst, sym, ◌∙◌, arith, refl}
 use Rattle.cs_types.specs.declared.scenario.Scenario.{Scenario}
 use Rattle.cs_types.specs.Room.{RoomState}
 use Rattle.core_events.specs.Inside.{IsFold}
@@ -26,6 +26,7 @@ invariant_of-result g c =
       count = refl;
       siblings = state.siblings;
       slow = omega (arith, ap (λ (room : RoomState). room.clock) state.room);
-      few_entries = omega (arith, entries.exact, most);
+      fits = omega (arith, ap length entries.items, entries.room);
+      few_entries = omega (arith, entries.room, most);
       ends = state.ends ∙ most;
     })

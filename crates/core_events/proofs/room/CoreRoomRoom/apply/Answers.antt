@@ -1,5 +1,5 @@
-use Rattle.std.proofs.Common.{◌≡◌, ℕ, ◌≤◌, ◌*◌, ◌++◌, ◌∷◌, [], length, get_or, set, ap, sym, subst, ◌∙◌, arith}
-use Rattle.std.specs.Prelude.{IfSome, All, ◌+◌, ◌<◌, ◌^◌, vec_len, vec_capacity}
+use Rattle.std.proofs.Common.{◌≡◌, ℕ, ◌≤◌, ◌*◌, ◌++◌, ◌∷◌, [], length, length-append, get_or, set, ap, sym, subst, ◌∙◌, arith}
+use Rattle.std.specs.Prelude.{IfSome, All, ◌+◌, ◌<◌, ◌^◌}
 use Rattle.std.proofs.Math.Seq.{get_or-append_seam, set-append_seam}
 use Rattle.std.proofs.lemmas.List.{length-map}
 use Rattle.std.proofs.lemmas.List.Elements.{All-push, All-weaker}
@@ -36,7 +36,7 @@ use Rattle.task_table.specs.Table.{total_in}
 use Rattle.core_events.proofs.room.CoreRoomRoom.apply.Goals as goal
 
 -- a machine that has a place left may take any event
-ready_of : {Q G : Type 0} {g : Ghosts Q} (a : Inside Q G g) → IsFold a → vec_len a.entries < vec_capacity a.entries → IsReady a.state
+ready_of : {Q G : Type 0} {g : Ghosts Q} (a : Inside Q G g) → IsFold a → length a.entries.items < a.entries.room → IsReady a.state
 ready_of {Q} a is spare =
     let opening = opening_of a in
     let past = a.entries.items in
@@ -109,13 +109,14 @@ noted past items place first here reply pushed last is =
 pub invariant_of-self : goal.invariant_of-self
 invariant_of-self g c =
     let a = c.self.inside in
+    let spare : length a.entries.items < a.entries.room = omega (arith, c.requires.spare, ap (λ (m : Machine). m.spare) c.self.view_is) in
     let entry : Entry = record { actor = c.args.actor; event = c.args.event; reply = c.counted-reply.result } in
     let so_far = folds_of a c.self.invariant in
     let limits = subst (λ (m : Machine). IsEvent m.opening.scenario.siblings c.args.event) (sym c.self.view_is) c.requires.event in
     let reply = reply_more (opening_of a) a.state c.counted-reply.new.state a.entries.items c.args.event c.counted-reply.result so_far (c.counted-reply.ensures.step (fold_of (opening_of a) a.entries.items).intervals) in
     let folds = folds_more (opening_of a) a.state c.counted-reply.new.state a.entries.items entry limits so_far (c.counted-reply.ensures.step (fold_of (opening_of a) a.entries.items).intervals) in
-    let items = noted a.entries.items c.push_reserved.new.self.items c.len-place.result (record { actor = c.args.actor; event = c.args.event; reply = Nothing }) c.index_mut.result.now c.counted-reply.result
-    c.push_reserved.ensures.items (omega (arith, c.len-place.ensures)) c.index_mut.ensures.value in
+    let items = noted a.entries.items c.push.new.self.items c.len-place.result (record { actor = c.args.actor; event = c.args.event; reply = Nothing }) c.index_mut.result.now c.counted-reply.result
+    c.push.ensures.items (omega (arith, c.len-place.ensures)) c.index_mut.ensures.value in
     record {
       playable = c.self.invariant.playable;
       events = rw items (All-push (λ (e : Entry). IsEvent a.scenario.value.siblings e.event) a.entries.items entry c.self.invariant.events limits);
@@ -127,12 +128,14 @@ invariant_of-self g c =
       siblings = c.counted-reply.ensures.stays.siblings ∙ c.self.invariant.siblings;
       slow = omega (
         arith,
-        c.push_reserved.ensures.len,
+        ap length items,
+        length-append a.entries.items (entry ∷ []),
         c.self.invariant.slow,
         ap (λ (room : RoomState). room.clock) (c.counted-reply.ensures.step (fold_of (opening_of a) a.entries.items).intervals).room,
         clock-step (room_with (fold_of (opening_of a) a.entries.items).intervals a.state) (is_fresh_by (state_numbers a.state)) c.args.event a.scenario.value.siblings limits,
       );
-      few_entries = omega (arith, c.push_reserved.ensures.capacity, c.self.invariant.few_entries);
+      fits = omega (arith, ap length items, length-append a.entries.items (entry ∷ []), c.push.ensures.room, spare);
+      few_entries = omega (arith, c.push.ensures.room, c.self.invariant.few_entries);
       ends = c.counted-reply.ensures.stays.ends ∙ c.self.invariant.ends;
     }
 
@@ -150,8 +153,8 @@ returns-clause-entry g c =
     let entry : Entry = record { actor = c.args.actor; event = c.args.event; reply = c.counted-reply.result } in
     let so_far = folds_of a c.self.invariant in
     let reply = reply_more (opening_of a) a.state c.counted-reply.new.state a.entries.items c.args.event c.counted-reply.result so_far (c.counted-reply.ensures.step (fold_of (opening_of a) a.entries.items).intervals) in
-    let items = noted a.entries.items c.push_reserved.new.self.items c.len-place.result (record { actor = c.args.actor; event = c.args.event; reply = Nothing }) c.index_mut.result.now c.counted-reply.result
-    c.push_reserved.ensures.items (omega (arith, c.len-place.ensures)) c.index_mut.ensures.value in
+    let items = noted a.entries.items c.push.new.self.items c.len-place.result (record { actor = c.args.actor; event = c.args.event; reply = Nothing }) c.index_mut.result.now c.counted-reply.result
+    c.push.ensures.items (omega (arith, c.len-place.ensures)) c.index_mut.ensures.value in
     rw items
     (sym (history_more (opening_of a) a.entries.items entry c.self.invariant.history reply)
     ∙ ap (λ h. h ++ entry ∷ []) (c.self.invariant.history ∙ ap (λ (m : Machine). history_of m.opening m.steps) c.self.view_is))

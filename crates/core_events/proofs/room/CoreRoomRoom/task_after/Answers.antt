@@ -55,5 +55,5 @@ returns-clause-bounded g c =
     let most = most_entries-le a.scenario.value c.self.invariant.playable in
     subst (λ (one : Option TaskView). IfSome one (λ task. task.vtime < 2 ^ 80)) (sym (shown g c))
     (shown_bounded (opening_of a) a.entries.items c.args.pid
-    (omega (arith, a.entries.ok.1, c.self.invariant.few_entries, most))
-    (omega (arith, ap (λ (room : RoomState). room.clock) c.self.invariant.fold, c.self.invariant.slow, a.entries.ok.1, c.self.invariant.few_entries, most)))
+    (omega (arith, c.self.invariant.fits, c.self.invariant.few_entries, most))
+    (omega (arith, ap (λ (room : RoomState). room.clock) c.self.invariant.fold, c.self.invariant.slow, c.self.invariant.fits, c.self.invariant.few_entries, most)))

@@ -1,6 +1,6 @@
 use Rattle.std.proofs.Common.{arith, ◌≤◌, ◌+◌, ◌*◌, Option, set, length-set, true, Some, Bor, ◌≡◌, ℕ, ◌<◌, [], cond, List, inl, inr, refl, sym, subst, ap, ◌∙◌, map, length}
 use Rattle.std.specs.Prelude.{◌==◌, All, IsTrue, find, slice_get, option_copied}
-use Rattle.std.specs.Global.{Vec}
+use Rattle.bounded_list.specs.Bounded.{Bounded}
 use Rattle.std.proofs.lemmas.Bool.{cases_Bool, cond-true, cond-false, eqb-true, eqb-false, ne_eqb}
 use Rattle.cs_types.proofs.Foremost.{find_passes}
 use Rattle.cs_laws.proofs.Spots.{replaced_by}
@@ -98,7 +98,7 @@ module _ {Q : Type 0} {g : Ghosts Q} (core : Core Q g) (before : Table) (pid fro
   leaves = subst (λ n. AgreeAway n (core, before)) (sym may.home) may.agree
 
   at_before : (cpu : ℕ) (queue : Q) → slice_get (queues_of then) cpu ≡ Some queue → slice_get (queues_of core) cpu ≡ Some queue
-  at_before cpu queue at = ap (λ (ls : Vec (Lane Q)). slice_get (map queue_of ls.items) cpu) (sym lanes) ∙ at
+  at_before cpu queue at = ap (λ (ls : Bounded (Lane Q)). slice_get (map queue_of ls.items) cpu) (sym lanes) ∙ at
 
   holds_now : (queue : Q) (of : List Task → List Queued) → g.holds queue before.limit (of (map (replaced_by went) before.tasks)) → g.holds queue now.limit (of now.tasks)
   holds_now queue of held =
@@ -121,7 +121,7 @@ module _ {Q : Type 0} {g : Ghosts Q} (core : Core Q g) (before : Table) (pid fro
     own = own;
     queued = refl;
     home = refl;
-    within = subst (λ (ls : Vec (Lane Q)). to < length ls.items) (sym lanes) may.other;
+    within = subst (λ (ls : Bounded (Lane Q)). to < length ls.items) (sym lanes) may.other;
     here_but = here;
     away_but = away_but;
   }

@@ -1,7 +1,7 @@
 use Rattle.std.proofs.Common.{◌≡◌, ◌≢◌, ◌<◌, map, List, inl, inr, sym, subst, ap, ◌∙◌, length, arith}
 use Rattle.std.specs.Prelude.{slice_get, ◌==◌}
 use Rattle.bounded_list.specs.Bounded.{Bounded, with_items}
-use Rattle.bounded_list.proofs.Items.{with_items_is}
+use Rattle.bounded_list.proofs.Items.{with_items_is, length-with_items}
 use Rattle.std.proofs.lemmas.Bool.{cases_Bool, eqb-true, eqb-false}
 use Rattle.std.proofs.lemmas.List.{map-set, length-map}
 use Rattle.std.proofs.Math.ListN.{length-set}
@@ -25,7 +25,7 @@ swap_queues-requires-clause-within g c =
     (subst (λ n. c.args.from < n) many c.requires.cpu, subst (λ n. c.args.to < n) many c.requires.other)
 
 pub index_mut-requires : goal.index_mut-requires
-index_mut-requires g c = omega (arith, c.requires.other)
+index_mut-requires g c = omega (arith, c.requires.other, length-with_items c.args.self.now.lanes c.swap_queues.new.lanes)
 
 pub renew-requires : goal.renew-requires
 renew-requires g c =

@@ -71,13 +71,13 @@ returns-clause-touches g c =
     let ended : c.end_alone-forced.new.table ≡ less = c.end_alone-forced.ensures.ended in
     let there = found (both old) (mid, table) task (c.put_to_sleep.ensures.touches c.args.task c.requires.there).room c.requires.there in
     let forced : c.end_alone-forced.result.1 ≡ total_in table pid = c.end_alone-forced.ensures.forced in
-    let moved : (other : ℕ) → total_in c.end_alone-forced.new.table other + total_among c.push_reserved.new.self.items other ≡ total_in table other + total_among old.ended.items other =
-    λ other. ap (λ (items : List (ℕ × ℕ)). total_in c.end_alone-forced.new.table other + total_among items other) c.push_reserved.ensures.items
+    let moved : (other : ℕ) → total_in c.end_alone-forced.new.table other + total_among c.push.new.self.items other ≡ total_in table other + total_among old.ended.items other =
+    λ other. ap (λ (items : List (ℕ × ℕ)). total_in c.end_alone-forced.new.table other + total_among items other) c.push.ensures.items
     ∙ total-moved (total_in table) (total_in c.end_alone-forced.new.table) pid c.end_alone-forced.result.1 old.ended.items c.end_alone-forced.ensures.totals forced other in
     record {
       room = λ intervals.
           let beside = beside_of intervals old in
-          (λ i. room_by (record beside { cookie_limit = c.end_alone-forced.ensures.limit i; ended = c.push_reserved.ensures.items i; next_cookie = c.end_alone-forced.ensures.next i }) (bare mid) (ended i))
+          (λ i. room_by (record beside { cookie_limit = c.end_alone-forced.ensures.limit i; ended = c.push.ensures.items i; next_cookie = c.end_alone-forced.ensures.next i }) (bare mid) (ended i))
           ∙ (λ i. let left : RoomState = record ((c.put_to_sleep.ensures.touches c.args.task c.requires.there).room beside i) { tasks = but pid ((c.put_to_sleep.ensures.touches c.args.task c.requires.there).room beside i).tasks; ended = map_push (λ (one : ℕ × ℕ). one.0) old.ended.items (pid, c.end_alone-forced.result.1) i } in left)
           ∙ ap (λ (tasks : List Task). let left : RoomState = record (room_with intervals old) { tasks = tasks; ended = map (λ one. one.0) old.ended.items ++ pid ∷ [] } in left) (but-changed asleep old.tasks.tasks);
       numbers =
@@ -90,12 +90,12 @@ returns-clause-touches g c =
           user_top = sound.user_top;
           pids = subst (λ (t : Table). All (λ (task : Task). IsGiven old.next_pid task.spec.pid) t.tasks) (sym ended)
               (All-filter gone (λ (task : Task). IsGiven old.next_pid task.spec.pid) table.tasks sound.pids);
-          ended = subst (λ items. All (IsGone old.next_pid c.end_alone-forced.new.table.tasks items) items) (sym c.push_reserved.ensures.items)
+          ended = subst (λ items. All (IsGone old.next_pid c.end_alone-forced.new.table.tasks items) items) (sym c.push.ensures.items)
               (subst (λ (t : Table). All (IsGone old.next_pid t.tasks (old.ended.items ++ (pid, c.end_alone-forced.result.1) ∷ [])) (old.ended.items ++ (pid, c.end_alone-forced.result.1) ∷ [])) (sym ended)
               (gone-push old.next_pid pid c.end_alone-forced.result.1 table.tasks asleep old.ended.items there (found_in (λ (task : Task). IsGiven old.next_pid task.spec.pid) pid table.tasks asleep sound.pids there).1 sound.ended));
           refs = c.end_alone-forced.ensures.agree;
         };
         siblings = refl;
-        ends = c.push_reserved.ensures.capacity;
+        ends = c.push.ensures.room;
       });
     }
