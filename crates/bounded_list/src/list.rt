@@ -194,6 +194,7 @@ impl<T: Drop> BoundedList<T> {
     pub fn retain<F: FnMut(&T) -> bool>(&mut self, keeps: F)
         requires { F.IsAlwaysCallable keeps }
         ensures filtered { IsFiltered (CalledAt F.FnMut) keeps self.old.items self.new.items }
+        ensures bound { length self.new.items ≤ length self.old.items }
         ensures room { self.new.room ≡ self.old.room }
     {
         self.items.retain(keeps);

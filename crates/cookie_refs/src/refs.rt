@@ -190,6 +190,7 @@ fn take_out_ended(cookies: &mut BoundedList<CookieCount>, places: &mut Places)
     ensures items { cookies.new.items ≡
         (if length cookies.old.items == cookies.old.room then live_of cookies.old.items else cookies.old.items) }
     ensures room { cookies.new.room ≡ cookies.old.room }
+    ensures fits { length cookies.new.items ≤ cookies.new.room }
 {
     if cookies.is_full() {
         cookies.retain(|one| one.count != 0);

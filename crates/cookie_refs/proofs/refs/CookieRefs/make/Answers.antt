@@ -1,4 +1,6 @@
-use Rattle.std.proofs.Common.{◌+◌, ◌<◌, ◌∙◌, length, sym, ap, cond, arith}
+use Rattle.std.proofs.Common.{◌+◌, ◌<◌, ◌∙◌, length, sym, ap, cond, inl, inr, arith}
+use Rattle.std.proofs.lemmas.Bool.{cases_Bool, eqb-false, cond-false}
+use Rattle.cookie_refs.specs.Inside.{live_of}
 use Rattle.std.specs.Prelude.{◌==◌}
 use Rattle.std.proofs.lemmas.List.Elements.{All-push, All-weaker}
 use Rattle.std.proofs.lemmas.List.Quantifiers.{all_pairs_push}
@@ -28,6 +30,19 @@ returns-then-self-clause-tasks c = rw (← c.self.view_is) (live_count-agreed c.
 
 pub returns-clause-tasks : goal.returns-clause-tasks
 returns-clause-tasks c = rw (← c.self.view_is) (live_count-agreed c.self.inside c.self.invariant)
+
+-- as those that are live are fewer than the room, there is room once those that ended are taken out
+pub push-requires : goal.push-requires
+push-requires c =
+    let sound = c.self.invariant in
+    let cookies = c.self.inside.cookies in
+    let live : length (live_of cookies.items) < cookies.room = omega (arith, sound.counted, sound.few, sound.room, c.if-self.false) in
+    record {
+      room = elim (cases_Bool (length cookies.items == cookies.room)) [
+        | inl full ↦ rw (c.take_out_ended.ensures.items, c.take_out_ended.ensures.room, full) live
+        | inr spare ↦ omega (arith, c.take_out_ended.ensures.fits, c.take_out_ended.ensures.room, eqb-false _ _ spare, ap length (c.take_out_ended.ensures.items ∙ cond-false _ _ _ spare))
+      ];
+    }
 
 -- the new serial is above all others
 pub invariant_of-self : goal.invariant_of-self
