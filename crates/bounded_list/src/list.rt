@@ -1,6 +1,6 @@
 //! The list and its methods. It is apart, since no other file reads how the items are kept.
 
-ghost use Rattle.std.specs.Prelude.{◌≡◌, ◌+◌, ◌-◌, ◌<◌, ◌≤◌, ◌==◌, ◌↔◌, [], ◌∷◌, ◌++◌, length, take, insert, remove, Some, IsOk, IsSome, IfOk, IfSome, IfNone, slice_get, slice_index_or};
+ghost use Rattle.std.specs.Prelude.{◌≡◌, ◌+◌, ◌-◌, ◌<◌, ◌≤◌, ◌==◌, ◌↔◌, [], ◌∷◌, ◌++◌, length, take, replicate, insert, remove, Some, IsOk, IsSome, IfOk, IfSome, IfNone, slice_get, slice_index_or};
 ghost use Rattle.std.specs.List.{IsItemAtMut, swap_remove};
 ghost use Rattle.std.specs.List.Retain.{IsFiltered};
 ghost use Rattle.std.specs.Fn.{CalledAt};
@@ -10,8 +10,8 @@ ghost use Rattle.std.specs.Borrow.{sem};
 use std::alloc::{AllocError, Global};
 use std::marker::Model;
 
-/// Items in order, and room for so many. `with_room` alone takes memory: no other call does, and none hands out an
-/// allocator. The items and the memory go when the list is dropped.
+/// Items in order, and room for so many. `with_room` and `filled` make a list and alone take memory: no other call does,
+/// and none hands out an allocator. The items and the memory go when the list is dropped.
 #[derive(Drop)]
 pub struct BoundedList<T> {
     items: Vec<T>,
@@ -33,7 +33,7 @@ impl<T> Model for BoundedList<T> {
 impl<T> BoundedList<T> {
     ghost use Rattle.bounded_list.specs.Lends.{LendsItems, LendsItem, LendsItemIf};
 
-    /// A list with no items, and room for `room` of them, a count. This call alone takes memory, and it fails if the
+    /// A list with no items, and room for `room` of them, a count. It takes memory for them all, and it fails if the
     /// allocator has not that much. It never fails if no room is asked for.
     pub fn with_room(alloc: Global, room: usize) -> Result<BoundedList<T>, AllocError>
         ensures items { IfOk result (λ list. list.items ≡ []) }
@@ -202,6 +202,19 @@ impl<T: Drop> BoundedList<T> {
 }
 
 impl<T: Copy> BoundedList<T> {
+    /// A list of `room` copies of the item, a count, so with room for no other. It takes memory as `with_room` does.
+    pub fn filled(alloc: Global, item: T, room: usize) -> Result<BoundedList<T>, AllocError>
+        ensures items { IfOk result (λ list. list.items ≡ replicate room item) }
+        ensures room { IfOk result (λ list. list.room ≡ room) }
+        ensures none { room ≡ 0 → IsOk result }
+    {
+        let mut items = Vec::with_capacity(alloc, room)?;
+        for _ in 0..room {
+            items.push_reserved(item);
+        }
+        Ok(BoundedList { items })
+    }
+
     /// Puts copies of these items behind the others. There must be room for them all.
     pub fn extend_from_slice(&mut self, others: &[T])
         requires room { length self.old.items + length others.now ≤ self.old.room }

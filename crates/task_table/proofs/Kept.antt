@@ -3,8 +3,8 @@ use Rattle.std.proofs.Common.{eq-eqb, ◌≡◌, ◌≢◌, ℕ, zero, suc, ◌+
 use Rattle.std.specs.Prelude.{find, filter, insert, remove, slice_get}
 use Rattle.std.proofs.lemmas.List.Edits.{length-insert, length-remove}
 use Rattle.std.proofs.lemmas.Bool.{ne_eqb}
-use Rattle.slab.specs.Slab.{Slab, get, slab_len, Updates, with_value}
-use Rattle.slab.proofs.SlabLemmas.{ContainsKey-within, Updates-with_value}
+use Rattle.task_table.specs.Slots.{Slotted, get, filled_count, Updates, with_task}
+use Rattle.task_table.proofs.Writes.{filled_within, Updates-with_task}
 use Rattle.std.proofs.lemmas.List.Sums.{sum_by-set}
 use Rattle.std.proofs.lemmas.List.{length-set, length-map, map-set, set-get_or}
 use Rattle.std.proofs.Math.Seq.{map-set_same}
@@ -26,7 +26,7 @@ use Rattle.task_table.specs.Inside.{slot_of, tasks_at, totals_of, groups_of, gro
 use Rattle.task_table.proofs.Rising.{find_at, find_none, none_gap, without_at, with_at, inserted_gap, rises_insert, rises_remove, rises_set, pids_set, at_within, split_within}
 use Rattle.task_table.proofs.Tables.{changed_each}
 use Rattle.task_table.proofs.Totals.{total-none}
-use Rattle.task_table.proofs.Slots.{insert_both, remove_both, length_both, listed, filled, slot_at, others_elsewhere, holds_insert, holds_remove, holds_set}
+use Rattle.task_table.proofs.Held.{insert_both, remove_both, length_both, listed, filled, slot_at, others_elsewhere, holds_insert, holds_remove, holds_set}
 
 -- the task at the position of a pid has it
 pub at_some : (pid position : ℕ) (tasks : List Task) → IsAt pid position tasks →
@@ -51,14 +51,14 @@ both_at f g (x ∷ xs) (first ∷ ys) alike zero d y within is =
 both_at f g (x ∷ xs) (first ∷ ys) alike (suc position) d y within is = both_at f g xs ys (cc) position d y (omega arith) is
 
 -- a write in a slot that has a task leaves how many there are
-pub slab_len-with_value : (slots : Slab Task) (key : ℕ) (old new : Task) → get slots key ≡ Some old → slab_len (with_value slots key new) ≡ slab_len slots
-slab_len-with_value slots key old new has =
-    let inside = ContainsKey-within slots key (rw has refl) in
+pub filled_count-with_task : (slots : Slotted) (key : ℕ) (old new : Task) → get slots key ≡ Some old → filled_count (with_task slots key new) ≡ filled_count slots
+filled_count-with_task slots key old new has =
+    let inside = filled_within slots key (rw has refl) in
     let counts = sum_by-set (λ slot. cond (is_some slot) 1 0) slots.slots key (Some new) None inside in
     let one : ◌≡◌ {A = ℕ} (cond (is_some (get_or slots.slots key None)) 1 0) 1 = rw has refl in
     omega (arith, counts, one)
 
-module _ {slots : Slab Task} {entries : List Entry} {threads processes : List Span} {room limit : ℕ} {tasks : List Task} (kept : IsKept slots entries threads processes room limit tasks) where
+module _ {slots : Slotted} {entries : List Entry} {threads processes : List Span} {room limit : ℕ} {tasks : List Task} (kept : IsKept slots entries threads processes room limit tasks) where
   -- what is kept is what the slots hold
   pub kept_view : tasks_at slots entries ≡ tasks
   kept_view = listed slots entries tasks kept.holds
@@ -136,7 +136,7 @@ module _ {slots : Slab Task} {entries : List Entry} {threads processes : List Sp
       )
 
   -- a table that is not full has room for one task more
-  pub room_in_slots : length entries ≢ limit → slab_len slots + 1 ≤ slots.capacity
+  pub room_in_slots : length entries ≢ limit → filled_count slots < slots.room
   room_in_slots free = omega (arith, kept_length, kept.sound.few, free, kept.counted, kept.room_for_tasks)
 
   pub room_in_entries : length entries ≢ limit → length entries < room
@@ -167,10 +167,10 @@ module _ {slots : Slab Task} {entries : List Entry} {threads processes : List Sp
       )
 
   -- a task goes into an empty slot, and an entry for it into its gap
-  pub kept_insert : (new : Slab Task) (after : List Entry) (more key position : ℕ) (task : Task) {by_threads by_processes : List Span} →
+  pub kept_insert : (new : Slotted) (after : List Entry) (more key position : ℕ) (task : Task) {by_threads by_processes : List Span} →
       AreGrouped by_threads by_processes (inserted task tasks) → IsGap task.spec.pid position tasks →
-      get slots key ≡ None → Updates slots new key (Some task) → slab_len new ≡ slab_len slots + 1 → new.capacity ≡ slots.capacity →
-      room ≤ more → length entries ≢ limit → after ≡ insert entries position (record { pid = task.spec.pid; tgid = task.spec.tgid; pgid = task.spec.pgid; key = key; forced = 0 }) →
+      get slots key ≡ None → Updates slots new key (Some task) → filled_count new ≡ filled_count slots + 1 → new.room ≡ slots.room →
+      more ≡ room → length entries ≢ limit → after ≡ insert entries position (record { pid = task.spec.pid; tgid = task.spec.tgid; pgid = task.spec.pgid; key = key; forced = 0 }) →
       IsKept new after by_threads by_processes more limit (inserted task tasks)
   kept_insert new after more key position task grouped gap empty updates longer same_room more_room free is =
       let entry : Entry = record { pid = task.spec.pid; tgid = task.spec.tgid; pgid = task.spec.pgid; key = key; forced = 0 } in
@@ -197,10 +197,10 @@ module _ {slots : Slab Task} {entries : List Entry} {threads processes : List Sp
       }
 
   -- the entry of a pid goes, and its slot becomes empty
-  pub kept_remove : (new : Slab Task) (after : List Entry) (less pid position : ℕ) (entry : Entry) {by_threads by_processes : List Span} →
+  pub kept_remove : (new : Slotted) (after : List Entry) (less pid position : ℕ) (entry : Entry) {by_threads by_processes : List Span} →
       AreGrouped by_threads by_processes (filter (λ task. not (has_pid pid task)) tasks) → IsAt pid position tasks →
-      entry ≡ get_or entries position entry → Updates slots new entry.key None → slab_len new + 1 ≡ slab_len slots →
-      new.capacity ≡ slots.capacity → less ≡ room → after ≡ remove entries position →
+      entry ≡ get_or entries position entry → Updates slots new entry.key None → filled_count new + 1 ≡ filled_count slots →
+      new.room ≡ slots.room → less ≡ room → after ≡ remove entries position →
       IsKept new after by_threads by_processes less limit (filter (λ task. not (has_pid pid task)) tasks)
   kept_remove new after less pid position entry grouped at here updates shorter same_room room_stays is =
       let there = found_some pid position entry at here in
@@ -249,10 +249,10 @@ module _ {slots : Slab Task} {entries : List Entry} {threads processes : List Sp
       }
 
   -- the slot of a pid gets another task with the pid, and the entry its groups
-  pub kept_set : (new : Slab Task) (after : List Entry) (position : ℕ) (entry : Entry) (task : Task) {by_threads by_processes : List Span} →
+  pub kept_set : (new : Slotted) (after : List Entry) (position : ℕ) (entry : Entry) (task : Task) {by_threads by_processes : List Span} →
       AreGrouped by_threads by_processes (map (λ other. cond (has_pid task.spec.pid other) task other) tasks) → IsAt task.spec.pid position tasks →
-      entry ≡ get_or entries position entry → Updates slots new entry.key (Some task) → slab_len new ≡ slab_len slots →
-      new.capacity ≡ slots.capacity → after ≡ set entries position (with_groups task entry) →
+      entry ≡ get_or entries position entry → Updates slots new entry.key (Some task) → filled_count new ≡ filled_count slots →
+      new.room ≡ slots.room → after ≡ set entries position (with_groups task entry) →
       IsKept new after by_threads by_processes room limit (map (λ other. cond (has_pid task.spec.pid other) task other) tasks)
   kept_set new after position entry task grouped at here updates same_length same_room is =
       let now = with_groups task entry in
@@ -307,7 +307,7 @@ module _ {slots : Slab Task} {entries : List Entry} {threads processes : List Sp
   -- a task with the same pid and groups comes into its slot
   pub kept_edited : {key pid : ℕ} (old now : Task) → IsSlotOf key pid entries tasks → get slots key ≡ Some old →
       now.spec.pid ≡ old.spec.pid → groups_of now ≡ groups_of old →
-      IsKept (with_value slots key now) entries threads processes room limit (map (λ (other : Task). cond (has_pid pid other) now other) tasks)
+      IsKept (with_task slots key now) entries threads processes room limit (map (λ (other : Task). cond (has_pid pid other) now other) tasks)
   kept_edited {key} {pid} old now slot in_slot same_pid same_groups =
       let there = found_in old slot in_slot in
       let entry = slot.entry in
@@ -320,12 +320,12 @@ module _ {slots : Slab Task} {entries : List Entry} {threads processes : List Sp
       ∙ sym same_groups in
       let same : with_groups now entry ≡ entry = (λ i. record entry { tgid = (sym told i).0; pgid = (sym told i).1 }) in
       let at_now = subst (λ n. IsAt n position tasks) (sym has_now) slot.at in
-      subst (λ n. IsKept (with_value slots key now) entries threads processes room limit (map (λ (other : Task). cond (has_pid n other) now other) tasks)) has_now
-      (kept_set (with_value slots key now) entries position entry now
+      subst (λ n. IsKept (with_task slots key now) entries threads processes room limit (map (λ (other : Task). cond (has_pid n other) now other) tasks)) has_now
+      (kept_set (with_task slots key now) entries position entry now
       (grouped_alike now position old tasks kept.grouped at_now it (λ i. ((same_groups i).0, same_pid i)) (λ i. ((same_groups i).1, same_pid i)))
       at_now slot.is
-      (subst (λ n. Updates slots (with_value slots key now) n (Some now)) (sym slot.slot) (Updates-with_value slots key now (rw in_slot refl)))
-      (slab_len-with_value slots key old now in_slot) refl
+      (subst (λ n. Updates slots (with_task slots key now) n (Some now)) (sym slot.slot) (Updates-with_task slots key now (rw in_slot refl)))
+      (filled_count-with_task slots key old now in_slot) refl
       (sym (set-get_or entries position entry) ∙ ap (set entries position) (sym slot.is ∙ sym same)))
 
   -- where a change makes it of the old one, it makes each task with the pid
@@ -338,13 +338,13 @@ module _ {slots : Slab Task} {entries : List Entry} {threads processes : List Sp
       ∙ changed_each change tasks old kept.sound.rising (subst (λ n. find (has_pid n) tasks ≡ Some old) (sym there.1) there.0))
 
 -- an open table keeps the tasks that it is seen as
-pub kept_of : (slots : Slab Task) (entries : List Entry) (threads processes : List Span) (room limit : ℕ) (table : Table) →
+pub kept_of : (slots : Slotted) (entries : List Entry) (threads processes : List Span) (room limit : ℕ) (table : Table) →
     record { tasks = tasks_at slots entries; totals = totals_of entries; limit = limit } ≡ table →
     IsKept slots entries threads processes room limit (tasks_at slots entries) → IsKept slots entries threads processes room limit table.tasks
 kept_of slots entries threads processes room limit table view kept = subst (λ (t : Table). IsKept slots entries threads processes room limit t.tasks) view kept
 
 -- what a kept table is seen as
-pub seen_as : (slots : Slab Task) (entries : List Entry) (threads processes : List Span) (room limit : ℕ) (tasks : List Task) (old : ℕ) →
+pub seen_as : (slots : Slotted) (entries : List Entry) (threads processes : List Span) (room limit : ℕ) (tasks : List Task) (old : ℕ) →
     IsKept slots entries threads processes room limit tasks → limit ≡ old →
     (λ (table : Table). table) (record { tasks = tasks_at slots entries; totals = totals_of entries; limit = limit })
     ≡ record { tasks = tasks; totals = totals_of entries; limit = old }
@@ -371,8 +371,8 @@ free_answer table spec position limit gap same free =
 no_counts : (spans : List Span) → spans ≡ replicate 8192 no_span → AreSpans spans []
 no_counts spans none = record { counts = λ place. ap (λ (s : List Span). (span_at s place).count) none ∙ ap (λ (s : Span). s.count) (no_spans place 8192); leasts = tt }
 
-pub kept_empty : (slots : Slab Task) (threads processes : List Span) (room limit : ℕ) → slab_len slots ≡ 0 →
-    threads ≡ replicate 8192 no_span → processes ≡ replicate 8192 no_span → limit ≤ room → limit ≤ slots.capacity → limit < 2 ^ 16 →
+pub kept_empty : (slots : Slotted) (threads processes : List Span) (room limit : ℕ) → filled_count slots ≡ 0 →
+    threads ≡ replicate 8192 no_span → processes ≡ replicate 8192 no_span → limit ≤ room → limit ≤ slots.room → limit < 2 ^ 16 →
     IsKept slots [] threads processes room limit []
 kept_empty slots threads processes room limit empty no_threads no_processes entries tasks small = record {
   holds = refl;

@@ -1,6 +1,8 @@
 pub mod Rising
 pub mod Grouping
-pub mod Slots
+pub mod Writes
+pub mod Links
+pub mod Held
 pub mod Grouped
 pub mod Kept
 pub mod Tables

@@ -2,28 +2,28 @@
 use Rattle.std.proofs.Common.{◌≡◌, ℕ, zero, suc, ◌+◌, ◌≤◌, cond, List, [], ◌∷◌, length, get_or, set, Some, None, is_some, refl, sym, ap, ◌∙◌, subst, arith, inl, inr}
 use Rattle.std.proofs.lemmas.Bool.{cases_eq}
 use Rattle.std.proofs.lemmas.List.Sums.{sum_by-set}
-use Rattle.slab.specs.Slab.{Slab, get, slab_len, Updates}
-use Rattle.slab.proofs.SlabLemmas.{ContainsKey-within, Updates-set}
+use Rattle.task_table.specs.Slots.{Slotted, get, filled_count, Updates}
+use Rattle.task_table.proofs.Writes.{filled_within, Updates-set}
 use Rattle.cs_types.specs.declared.task.Task.{Task}
 use Rattle.task_table.specs.declared.entry.Entry.{Entry}
 use Rattle.task_table.specs.Table.{pid_of, RisesFrom}
 use Rattle.task_table.specs.Positions.{IsAt}
 use Rattle.task_table.specs.Inside.{Holds, IsSlotOf}
-use Rattle.task_table.proofs.Slots.{above_elsewhere, same_elsewhere}
+use Rattle.task_table.proofs.Held.{above_elsewhere, same_elsewhere}
 
 -- ---- a slot that is emptied
 
-emptied : Slab Task → ℕ → Slab Task
+emptied : Slotted → ℕ → Slotted
 emptied slots key = record slots { slots = set slots.slots key None }
 
-empties : (slots : Slab Task) (key : ℕ) (task : Task) → get slots key ≡ Some task → Updates slots (emptied slots key) key None
+empties : (slots : Slotted) (key : ℕ) (task : Task) → get slots key ≡ Some task → Updates slots (emptied slots key) key None
 unfolding emptied
-empties slots key task has = Updates-set slots (emptied slots key) key None (ContainsKey-within slots key (rw has refl)) refl
+empties slots key task has = Updates-set slots (emptied slots key) key None (filled_within slots key (rw has refl)) refl
 
-one_less : (slots : Slab Task) (key : ℕ) (task : Task) → get slots key ≡ Some task → slab_len (emptied slots key) + 1 ≡ slab_len slots
+one_less : (slots : Slotted) (key : ℕ) (task : Task) → get slots key ≡ Some task → filled_count (emptied slots key) + 1 ≡ filled_count slots
 unfolding emptied
 one_less slots key task has =
-    let inside = ContainsKey-within slots key (rw has refl) in
+    let inside = filled_within slots key (rw has refl) in
     let counts = sum_by-set (λ slot. cond (is_some slot) 1 0) slots.slots key None None inside in
     let one : ◌≡◌ {A = ℕ} (cond (is_some (get_or slots.slots key None)) 1 0) 1 = rw has refl in
     omega (arith, counts, one)
@@ -37,7 +37,7 @@ at_low low pid zero (task ∷ rest) rises at = omega (arith, rises.0, at.0)
 at_low low pid (suc position) (task ∷ rest) rises at = omega (arith, rises.0, at.0)
 
 -- a slot that has a task is that of the entry with its pid
-pub stands : (slots : Slab Task) (low : ℕ) (entries : List Entry) (tasks : List Task) → Holds slots entries tasks → RisesFrom low tasks → slab_len slots ≡ length entries →
+pub stands : (slots : Slotted) (low : ℕ) (entries : List Entry) (tasks : List Task) → Holds slots entries tasks → RisesFrom low tasks → filled_count slots ≡ length entries →
     (key : ℕ) (task : Task) → get slots key ≡ Some task → IsSlotOf key task.spec.pid entries tasks
 stands slots low [] tasks holds rises counted key task has = absurd (omega (arith, counted, one_less slots key task has))
 stands slots low (entry ∷ entries) [] holds rises counted key task has = absurd cc

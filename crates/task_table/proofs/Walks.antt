@@ -7,7 +7,7 @@ use Rattle.std.proofs.lemmas.Bool.{cond-true, cond-false, cases_Bool}
 use Rattle.std.proofs.lemmas.Iterator.Adapters.{position_from-zero}
 use Rattle.std.proofs.lemmas.List.{drop-map}
 use Rattle.std.proofs.lemmas.List.Quantifiers.{position-Some}
-use Rattle.slab.specs.Slab.{Slab, get}
+use Rattle.task_table.specs.Slots.{Slotted, get}
 use Rattle.cs_types.specs.declared.task.Task.{Task}
 use Rattle.cs_types.specs.Room.{has_pid}
 use Rattle.task_table.specs.declared.entry.Entry.{Entry}
@@ -18,7 +18,7 @@ use Rattle.task_table.specs.Table.{Rises}
 use Rattle.task_table.specs.Positions.{IsAt, IsAbove}
 use Rattle.task_table.specs.Inside.{tasks_at, groups_of, groups_told, tells_group, TellGroups, IsWalk}
 use Rattle.task_table.proofs.Rising.{find_first, filter_split, walked_on, find_again}
-use Rattle.task_table.proofs.Slots.{listed, filled, holds_drop, slot_at}
+use Rattle.task_table.proofs.Held.{listed, filled, holds_drop, slot_at}
 
 -- ---- the first of a group
 
@@ -68,7 +68,7 @@ module _ {X Y : Type 0} (p : X → Bool) (q : Y → Bool) where
 
 -- ---- a walk
 
-module _ (slots : Slab Task) (entries : List Entry) {of : Group} {most : ℕ} (walk : IsWalk slots entries of most) where
+module _ (slots : Slotted) (entries : List Entry) {of : Group} {most : ℕ} (walk : IsWalk slots entries of most) where
   abbrev held : List Task
   held = tasks_at slots entries
 

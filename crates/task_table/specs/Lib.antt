@@ -2,6 +2,8 @@ pub mod Table
 pub mod Group
 pub mod Positions
 pub mod Grouping
+pub mod Slots
+pub mod Links
 pub mod Inside
 pub mod Walk
 pub mod Moves

@@ -1,5 +1,6 @@
 //! The living tasks of a core, and what each was charged for forced idle, found by pid and walked by
-//! rising pid. Slots are set aside once, so that no later call takes memory.
+//! rising pid. All is kept in lists whose room is taken once, so no later call
+//! can take memory.
 #![tactic(auto)]
 
 mod edit;
@@ -7,6 +8,7 @@ mod entry;
 mod fault;
 mod group;
 mod places;
+mod slots;
 mod spans;
 mod table;
 mod tasks;

@@ -4,6 +4,7 @@
 ghost use Rattle.std.specs.Prelude.{◌≡◌, length};
 
 use crate::entry::Entry;
+use bounded_list::BoundedList;
 use cs_types::{OutOfMemory, Pid};
 use std::alloc::Global;
 
@@ -20,9 +21,9 @@ const BEHIND_ALL: usize = 65536;
 /// The positions of entries by their pids, as they were last noted, and the slots of their tasks.
 #[derive(Drop)]
 pub(crate) struct Places {
-    noted: Vec<u16>,
+    noted: BoundedList<u16>,
     /// A task keeps its slot for life.
-    slots: Vec<u16>,
+    slots: BoundedList<u16>,
     /// How many entries have gone since the positions were noted, a count.
     gone: usize,
     /// No entry before this position has gone since then.
@@ -34,8 +35,8 @@ pub(crate) struct Places {
 impl Places {
     /// No position and no slot but 0. This call alone takes memory.
     pub fn none(alloc: Global) -> Result<Places, OutOfMemory> {
-        let noted = vec![in alloc; 0; PLACES]?;
-        let slots = vec![in alloc; 0; PLACES]?;
+        let noted = BoundedList::filled(alloc, 0, PLACES)?;
+        let slots = BoundedList::filled(alloc, 0, PLACES)?;
         Ok(Places {
             noted,
             slots,
@@ -84,7 +85,7 @@ impl Places {
         let Some(behind) = entries.get(from..) else {
             return;
         };
-        let noted = &mut self.noted[..];
+        let noted = self.noted.as_mut_slice();
         let mut position = (from % 65536) as u16;
         for entry in behind {
             noted[entry.pid as usize % PLACES] = position;

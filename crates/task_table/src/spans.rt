@@ -3,6 +3,7 @@
 ghost use Rattle.std.specs.Prelude.{◌≡◌, ◌≢◌, ℕ, ◌+◌, ◌<◌, ◌^◌, List, length, insert, remove, replicate, slice_set, IfOk};
 ghost use Rattle.task_table.specs.Grouping.{place_of, no_span, span_at, Joins, AreSpans, HasMember, Counts};
 
+use bounded_list::BoundedList;
 use cs_types::{OutOfMemory, Pid};
 use std::alloc::Global;
 
@@ -22,7 +23,7 @@ pub(crate) struct Span {
 /// The spans of all groups of one kind.
 #[derive(Drop)]
 pub(crate) struct Spans {
-    all: Vec<Span>,
+    all: BoundedList<Span>,
     ghost each: { length all.items ≡ 8192 },
 }
 
@@ -55,7 +56,7 @@ impl Spans {
     pub fn none(alloc: Global) -> Result<Spans, OutOfMemory>
         ensures { IfOk result (λ spans. spans.all.items ≡ replicate 8192 no_span) }
     {
-        let all = vec![in alloc; Span { count: 0, least: 0 }; SPANS]?;
+        let all = BoundedList::filled(alloc, Span { count: 0, least: 0 }, SPANS)?;
         Ok(Spans { all })
     }
 

@@ -15,10 +15,11 @@ mod changes;
 use crate::entry::{Entry, position_above, position_by, position_of};
 use crate::group::Group;
 use crate::places::Places;
+use crate::slots::Slots;
 use crate::spans::{Span, Spans};
 use crate::tasks::Tasks;
+use bounded_list::BoundedList;
 use cs_types::{OutOfMemory, Pid, Task};
-use slab::Slab;
 use std::alloc::Global;
 use std::marker::Model;
 
@@ -26,9 +27,9 @@ use std::marker::Model;
 /// charged for forced idle.
 #[derive(Drop)]
 pub struct TaskTable {
-    slots: Slab<Task>,
+    slots: Slots,
     /// An entry for each task, by rising pid.
-    entries: Vec<Entry>,
+    entries: BoundedList<Entry>,
     places: Places,
     /// The spans of the thread groups.
     threads: Spans,
@@ -38,7 +39,6 @@ pub struct TaskTable {
 }
 
 impl Model for TaskTable {
-    ghost use Rattle.std.specs.Prelude.{vec_capacity};
     ghost use Rattle.task_table.specs.Table.{Table};
     ghost use Rattle.task_table.specs.Inside.{tasks_at, totals_of, IsKept};
 
@@ -50,7 +50,7 @@ impl Model for TaskTable {
       limit = table.limit;
     } };
 
-    ghost invariant = { λ table. IsKept table.slots table.entries.items table.threads.all.items table.processes.all.items (vec_capacity table.entries) table.limit
+    ghost invariant = { λ table. IsKept table.slots table.entries.items table.threads.all.items table.processes.all.items table.entries.room table.limit
         (tasks_at table.slots table.entries.items) };
 }
 
@@ -61,8 +61,8 @@ impl TaskTable {
         ensures sound { IfOk result IsSound }
     {
         Ok(TaskTable {
-            slots: Slab::with_capacity(alloc, limit as usize)?,
-            entries: Vec::with_capacity(alloc, limit as usize)?,
+            slots: Slots::with_room(alloc, limit as usize)?,
+            entries: BoundedList::with_room(alloc, limit as usize)?,
             places: Places::none(alloc)?,
             threads: Spans::none(alloc)?,
             processes: Spans::none(alloc)?,
@@ -270,7 +270,7 @@ impl TaskTable {
         Tasks {
             group,
             most,
-            entries: &self.entries[position..],
+            entries: &self.entries.as_slice()[position..],
             slots: &self.slots,
         }
     }

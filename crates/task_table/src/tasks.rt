@@ -5,8 +5,8 @@ ghost use Rattle.std.specs.Iterator.{YieldsFirstRef, item_count};
 
 use crate::entry::{Entry, first_in};
 use crate::group::Group;
+use crate::slots::Slots;
 use cs_types::Task;
-use slab::Slab;
 use std::marker::Model;
 
 /// The tasks of a group that a walk has left, by rising pid.
@@ -16,7 +16,7 @@ pub struct Tasks<'a> {
     /// At most so many are left, a count.
     pub(crate) most: usize,
     pub(crate) entries: &'a [Entry],
-    pub(crate) slots: &'a Slab<Task>,
+    pub(crate) slots: &'a Slots,
 }
 
 impl<'a> Model for Tasks<'a> {

@@ -18,9 +18,10 @@ use crate::edit::Edit;
 use crate::entry::{Entry, is_above_all, position_of};
 use crate::fault::AddFault;
 use crate::places::Places;
+use crate::slots::Slots;
 use crate::spans::Spans;
+use bounded_list::BoundedList;
 use cs_types::{Cookie, Cpu, Pid, Task, TaskSpec};
-use slab::Slab;
 
 /// A task before its first wake.
 fn asleep(spec: TaskSpec) -> Task
@@ -60,10 +61,10 @@ fn regroup(entry: &mut Entry, threads: &mut Spans, processes: &mut Spans, spec: 
     entry.pgid = spec.pgid;
 }
 
-/// The slot of the task with the pid. `None` exactly where there is none. It is handed the vector of the entries, since to
+/// The slot of the task with the pid. `None` exactly where there is none. It is handed the list of the entries, since to
 /// read where these stand is a cost of its own, and only a search needs it.
 #[inline(always)]
-fn slot_of(slots: &Slab<Task>, entries: &Vec<Entry>, places: &Places, pid: Pid) -> Option<usize>
+fn slot_of(slots: &Slots, entries: &BoundedList<Entry>, places: &Places, pid: Pid) -> Option<usize>
     ensures { (threads processes : List SomeSpan) (room limit : ℕ) (tasks : List SomeTask) → IsKept slots.now entries.now.items threads processes room limit tasks →
         MatchOption result (find (has_pid pid) tasks ≡ None) (λ key. IsSlotOf key pid entries.now.items tasks) }
 {
@@ -121,10 +122,8 @@ impl TaskTable {
         if self.entries.len() == self.limit as usize {
             return Err(AddFault::Full(self.limit));
         }
-        let key = self.slots.insert_reserved(asleep(spec));
-        self.entries
-            .insert(position, Entry::of(&spec, key))
-            .unwrap();
+        let key = self.slots.fill(asleep(spec));
+        self.entries.insert(position, Entry::of(&spec, key));
         self.threads.add(spec.tgid, spec.pid);
         self.processes.add(spec.pgid, spec.pid);
         self.places.note(&self.entries, position);

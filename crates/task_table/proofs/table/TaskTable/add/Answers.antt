@@ -14,5 +14,5 @@ returns-in-Ok-clause-answer c =
 pub insert-requires : goal.insert-requires
 insert-requires c =
     let kept = kept_of _ _ _ _ _ _ _ c.self.view_is c.self.invariant in
-    subst (λ n. IsGap c.args.spec.pid n c.args.self.now.tasks) (sym (c.len-behind_all.ensures ∙ c.self.inside.entries.ok.0 ∙ ap length (sym c.deref.ensures.value)))
+    subst (λ n. IsGap c.args.spec.pid n c.args.self.now.tasks) (sym (c.len-behind_all.ensures ∙ ap length (sym c.deref.ensures.value)))
     (c.is_above_all.ensures c.if-is_above_all.true c.args.self.now.tasks (rw c.deref.ensures.value kept.index) kept.sound.rising)

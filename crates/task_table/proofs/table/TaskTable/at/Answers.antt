@@ -2,7 +2,7 @@ use Rattle.std.proofs.Common.{length, sym, ap, ◌∙◌}
 use Rattle.std.proofs.lemmas.Bool.{ltb-true}
 use Rattle.task_table.specs.Inside.{slot_of}
 use Rattle.task_table.proofs.Kept.{kept_of}
-use Rattle.task_table.proofs.Slots.{slot_at}
+use Rattle.task_table.proofs.Held.{slot_at}
 use Rattle.task_table.proofs.table.TaskTable.at.Goals as goal
 
 pub returns-clause-task : goal.returns-clause-task

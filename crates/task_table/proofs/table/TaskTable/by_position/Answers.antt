@@ -7,7 +7,7 @@ pub index-requires : goal.index-requires
 index-requires c =
     let kept = kept_of _ _ _ _ _ _ _ c.self.view_is c.self.invariant in
     let at = c.in-Ok.ensures c.args.self.now.tasks (rw c.deref.ensures.value kept.index) kept.sound.rising in
-    omega (arith, c.self.inside.entries.ok.0, position_within kept c.args.pid c.in-Ok.position at)
+    omega (arith, position_within kept c.args.pid c.in-Ok.position at)
 
 pub returns-in-Ok : goal.returns-in-Ok
 returns-in-Ok c =

@@ -1,6 +1,6 @@
 use Rattle.std.proofs.Common.{◌≡◌, sym, ap, ◌∙◌, map, if◌then◌else◌}
-use Rattle.std.specs.Prelude.{is_some, vec_capacity}
-use Rattle.slab.specs.Slab.{with_value}
+use Rattle.std.specs.Prelude.{is_some}
+use Rattle.task_table.specs.Slots.{with_task}
 use Rattle.cs_types.specs.Room.{has_pid}
 use Rattle.cs_types.specs.declared.task.Task.{Task}
 use Rattle.task_table.specs.Table.{Table}
@@ -29,8 +29,8 @@ index-old-requires c =
 slot : (c : goal.After-self-1) → IsSlotOf c.in-Some.key c.args.task.spec.pid c.self.inside.entries.items c.args.self.now.tasks
 slot c = c.in-Some.ensures _ _ _ _ _ (kept_of _ _ _ _ _ _ _ c.self.view_is c.self.invariant)
 
-after : (c : goal.After-self-1) → IsKept (with_value c.self.inside.slots c.in-Some.key c.args.task) c.self.inside.entries.items
-    c.self.inside.threads.all.items c.self.inside.processes.all.items (vec_capacity c.self.inside.entries) c.self.inside.limit
+after : (c : goal.After-self-1) → IsKept (with_task c.self.inside.slots c.in-Some.key c.args.task) c.self.inside.entries.items
+    c.self.inside.threads.all.items c.self.inside.processes.all.items c.self.inside.entries.room c.self.inside.limit
     (map (λ (task : Task). if has_pid c.args.task.spec.pid task then c.args.task else task) c.args.self.now.tasks)
 after c =
     let kept = kept_of _ _ _ _ _ _ _ c.self.view_is c.self.invariant in

@@ -1,12 +1,12 @@
 use Rattle.std.proofs.Common.{arith, ◌∙◌, sym, ap, refl, map, set, subst, if◌then◌else◌}
-use Rattle.std.specs.Prelude.{is_some, vec_capacity}
-use Rattle.slab.specs.Slab.{with_value}
-use Rattle.slab.proofs.SlabLemmas.{Updates-with_value}
+use Rattle.std.specs.Prelude.{is_some}
+use Rattle.task_table.specs.Slots.{with_task}
+use Rattle.task_table.proofs.Writes.{Updates-with_task}
 use Rattle.cs_types.specs.Room.{has_pid}
 use Rattle.task_table.specs.Table.{Table}
 use Rattle.task_table.specs.Inside.{IsKept}
 use Rattle.task_table.proofs.Rising.{none_gap, find_none, changed_none}
-use Rattle.task_table.proofs.Kept.{kept_of, kept_again, seen_as, position_within, found, found_some, member_at, counts_at, kept_set, totals_set, slab_len-with_value}
+use Rattle.task_table.proofs.Kept.{kept_of, kept_again, seen_as, position_within, found, found_some, member_at, counts_at, kept_set, totals_set, filled_count-with_task}
 use Rattle.task_table.specs.declared.entry.Entry.{Entry}
 use Rattle.task_table.specs.Grouping.{AreSpans, AreGrouped, thread_of, process_of}
 use Rattle.task_table.proofs.Totals.{total-at}
@@ -23,7 +23,7 @@ returns-in_default-clause-changed c =
 
 pub index_mut-entry-requires : goal.index_mut-entry-requires
 index_mut-entry-requires c =
-    omega (arith, c.self.inside.entries.ok.0, position_within (kept_of _ _ _ _ _ _ _ c.self.view_is c.self.invariant) c.args.task.spec.pid c.in-Ok.position c.in-Ok.ensures.position)
+    omega (arith, position_within (kept_of _ _ _ _ _ _ _ c.self.view_is c.self.invariant) c.args.task.spec.pid c.in-Ok.position c.in-Ok.ensures.position)
 
 pub index_mut-slot-requires : goal.index_mut-slot-requires
 index_mut-slot-requires c =
@@ -56,10 +56,10 @@ grouped c =
     (subst (λ n. AreSpans c.regroup.new.processes.all.items (set (map process_of tasks) position (c.args.task.spec.pgid, n))) pid
     (c.regroup.ensures.processes (map process_of tasks) position members.1 kept.grouped.by_processes))
 
-after : (c : goal.After-self-2-1) → IsKept (with_value c.self.inside.slots c.index_mut-entry.result.now.key c.args.task)
+after : (c : goal.After-self-2-1) → IsKept (with_task c.self.inside.slots c.index_mut-entry.result.now.key c.args.task)
     (set c.self.inside.entries.items c.in-Ok.position c.regroup.new.entry)
     c.regroup.new.threads.all.items c.regroup.new.processes.all.items
-    (vec_capacity c.self.inside.entries) c.self.inside.limit
+    c.self.inside.entries.room c.self.inside.limit
     (map (λ other. if has_pid c.args.task.spec.pid other then c.args.task else other) c.args.self.now.tasks)
 after c =
     let kept = kept_of _ _ _ _ _ _ _ c.self.view_is c.self.invariant in
@@ -67,8 +67,8 @@ after c =
     let here = c.index_mut-entry.ensures.value in
     let there = found_some kept c.args.task.spec.pid c.in-Ok.position entry c.in-Ok.ensures.position here in
     kept_set kept _ _ c.in-Ok.position entry c.args.task (grouped c) c.in-Ok.ensures.position here
-    (Updates-with_value c.self.inside.slots entry.key c.args.task (ap is_some there.1))
-    (slab_len-with_value c.self.inside.slots entry.key there.0 c.args.task there.1) refl
+    (Updates-with_task c.self.inside.slots entry.key c.args.task (ap is_some there.1))
+    (filled_count-with_task c.self.inside.slots entry.key there.0 c.args.task there.1) refl
     (ap (set c.self.inside.entries.items c.in-Ok.position) c.regroup.ensures.entry)
 
 pub invariant_of-self : goal.invariant_of-self

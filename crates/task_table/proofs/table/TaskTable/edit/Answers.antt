@@ -1,6 +1,6 @@
 use Rattle.std.proofs.Common.{◌≡◌, sym, ap, refl, subst, ◌∙◌, map, if◌then◌else◌}
-use Rattle.std.specs.Prelude.{is_some, vec_capacity, option_copied, Some}
-use Rattle.slab.specs.Slab.{with_value}
+use Rattle.std.specs.Prelude.{is_some, option_copied, Some}
+use Rattle.task_table.specs.Slots.{with_task}
 use Rattle.cs_types.specs.Room.{has_pid}
 use Rattle.cs_types.specs.declared.task.Task.{Task}
 use Rattle.cs_types.specs.declared.task.TaskSpec.{TaskSpec}
@@ -13,7 +13,7 @@ use Rattle.task_table.proofs.Rising.{changed_none}
 use Rattle.task_table.proofs.Tables.{none_found}
 use Rattle.task_table.specs.declared.table.TaskTable.TheInside.{Inside}
 use Rattle.task_table.specs.Positions.{IsIndexOf}
-use Rattle.slab.specs.Slab.{get}
+use Rattle.task_table.specs.Slots.{get}
 use Rattle.task_table.proofs.Noted.{stands}
 use Rattle.task_table.proofs.Kept.{kept_of, kept_again, seen_as, task_in, kept_edited, edited}
 use Rattle.task_table.proofs.table.TaskTable.edit.Goals as goal
@@ -40,9 +40,9 @@ same c = elim c.match-get.branch [
 ]
 
 kept : (c : goal.After-index_mut-arg-1) → IsKept c.match-get.self-inside.slots c.match-get.self-inside.entries.items
-    c.match-get.self-inside.threads.all.items c.match-get.self-inside.processes.all.items (vec_capacity c.match-get.self-inside.entries) c.match-get.self-inside.limit c.args.self.now.tasks
+    c.match-get.self-inside.threads.all.items c.match-get.self-inside.processes.all.items c.match-get.self-inside.entries.room c.match-get.self-inside.limit c.args.self.now.tasks
 kept c =
-    subst (λ (inside : Inside). IsKept inside.slots inside.entries.items inside.threads.all.items inside.processes.all.items (vec_capacity inside.entries) inside.limit c.args.self.now.tasks)
+    subst (λ (inside : Inside). IsKept inside.slots inside.entries.items inside.threads.all.items inside.processes.all.items inside.entries.room inside.limit c.args.self.now.tasks)
     (sym (same c)) (kept_of _ _ _ _ _ _ _ c.self.view_is c.self.invariant)
 
 -- the slot that was noted, or was searched for, is that of the task
@@ -74,8 +74,8 @@ viewed c =
     subst (λ (inside : Inside). (let table : Table = record { tasks = tasks_at inside.slots inside.entries.items; totals = totals_of inside.entries.items; limit = inside.limit } in table) ≡ c.args.self.now)
     (sym (same c)) c.self.view_is
 
-after : (c : goal.After-self-1) → IsKept (with_value c.match-get.self-inside.slots c.match-get.key c.write.new.task) c.match-get.self-inside.entries.items
-    c.match-get.self-inside.threads.all.items c.match-get.self-inside.processes.all.items (vec_capacity c.match-get.self-inside.entries) c.match-get.self-inside.limit
+after : (c : goal.After-self-1) → IsKept (with_task c.match-get.self-inside.slots c.match-get.key c.write.new.task) c.match-get.self-inside.entries.items
+    c.match-get.self-inside.threads.all.items c.match-get.self-inside.processes.all.items c.match-get.self-inside.entries.room c.match-get.self-inside.limit
     (map (λ (task : Task). if has_pid c.args.pid task then c.write.new.task else task) c.args.self.now.tasks)
 after c =
     kept_edited (kept c.before.before.before) c.index_mut.result.now c.write.new.task (slot c.before.before.before) c.index_mut.ensures.value

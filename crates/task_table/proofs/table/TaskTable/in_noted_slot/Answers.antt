@@ -1,6 +1,6 @@
 use Rattle.std.proofs.Common.{◌≡◌, sym, ap, ◌∙◌}
 use Rattle.std.specs.Prelude.{Some, find, option_copied}
-use Rattle.slab.specs.Slab.{get}
+use Rattle.task_table.specs.Slots.{get}
 use Rattle.cs_types.specs.Room.{has_pid}
 use Rattle.task_table.proofs.Kept.{kept_of, found_in}
 use Rattle.task_table.proofs.Noted.{stands}

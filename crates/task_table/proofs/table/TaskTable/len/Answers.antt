@@ -4,4 +4,4 @@ use Rattle.task_table.proofs.table.TaskTable.len.Goals as goal
 
 pub overflow_cast-result : goal.overflow_cast-result
 overflow_cast-result c =
-    omega (arith, c.len.ensures, c.self.inside.entries.ok.0, kept_length c.self.invariant, c.self.invariant.sound.few, c.self.invariant.sound.limit)
+    omega (arith, c.len.ensures, kept_length c.self.invariant, c.self.invariant.sound.few, c.self.invariant.sound.limit)

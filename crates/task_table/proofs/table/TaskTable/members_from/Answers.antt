@@ -9,8 +9,8 @@ use Rattle.task_table.proofs.Kept.{kept_walk}
 use Rattle.task_table.proofs.Walks.{seen_from, walk_from}
 use Rattle.task_table.proofs.table.TaskTable.members_from.Goals as goal
 
-part : (c : goal.After-result-1) → take (length c.deref.result.now - c.args.position) (drop c.args.position c.deref.result.now) ≡ drop c.args.position c.self.inside.entries.items
-part c = take_rest c.deref.result.now c.args.position ∙ ap (drop c.args.position) c.deref.ensures.value
+part : (c : goal.After-result-1) → take (length c.as_slice.result.now - c.args.position) (drop c.args.position c.as_slice.result.now) ≡ drop c.args.position c.self.inside.entries.items
+part c = take_rest c.as_slice.result.now c.args.position ∙ ap (drop c.args.position) c.as_slice.ensures.value
 
 pub invariant_of-result : goal.invariant_of-result
 invariant_of-result c =

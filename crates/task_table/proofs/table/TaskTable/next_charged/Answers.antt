@@ -17,7 +17,7 @@ returns-in_err-task-clause-next c =
 pub index-requires : goal.index-requires
 index-requires c =
     let there = sym c.at.ensures.task ∙ ap option_copied c.in_ok-task.was in
-    omega (arith, c.self.inside.entries.ok.0, kept_length (kept_of _ _ _ _ _ _ _ c.self.view_is c.self.invariant), get_within c.args.self.now.tasks c.position_above-position.result _ there)
+    omega (arith, kept_length (kept_of _ _ _ _ _ _ _ c.self.view_is c.self.invariant), get_within c.args.self.now.tasks c.position_above-position.result _ there)
 
 pub returns-clause-next : goal.returns-clause-next
 returns-clause-next c =

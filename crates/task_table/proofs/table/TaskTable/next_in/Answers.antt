@@ -22,7 +22,6 @@ members_from-requires-clause-most c =
       length-drop c.position_above.result tasks,
       kept_length (kept_of _ _ _ _ _ _ _ c.self.view_is c.self.invariant),
       c.len.ensures,
-      c.self.inside.entries.ok.0,
     )
 
 is : (c : goal.After-next) → option_copied c.next.result ≡ find (λ task. is_in_group c.args.group task && nat_lt c.args.after task.spec.pid) c.args.self.now.tasks

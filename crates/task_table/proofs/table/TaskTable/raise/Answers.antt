@@ -1,5 +1,5 @@
 use Rattle.std.proofs.Common.{arith, ◌+◌, ◌∙◌, ap, refl, set, if◌then◌else◌}
-use Rattle.std.specs.Prelude.{find, ◌==◌, vec_capacity}
+use Rattle.std.specs.Prelude.{find, ◌==◌}
 use Rattle.std.specs.Option.{IsSome}
 use Rattle.cs_types.specs.Room.{has_pid}
 use Rattle.task_table.specs.declared.entry.Entry.{Entry}
@@ -18,7 +18,7 @@ unreachable-requires c =
 
 pub index_mut-requires : goal.index_mut-requires
 index_mut-requires c =
-    omega (arith, c.self.inside.entries.ok.0, position_within (kept_of _ _ _ _ _ _ _ c.self.view_is c.self.invariant) c.args.pid c.in-Ok.position c.in-Ok.ensures.position)
+    omega (arith, position_within (kept_of _ _ _ _ _ _ _ c.self.view_is c.self.invariant) c.args.pid c.in-Ok.position c.in-Ok.ensures.position)
 
 pub overflow_add-index_mut : goal.overflow_add-index_mut
 overflow_add-index_mut c =
@@ -34,7 +34,7 @@ overflow_add-index_mut c =
 
 after : (c : goal.After-self-1) → IsKept c.self.inside.slots (set c.self.inside.entries.items c.in-Ok.position (record c.index_mut.result.now { forced = c.index_mut.result.now.forced + c.args.share }))
     c.self.inside.threads.all.items c.self.inside.processes.all.items
-    (vec_capacity c.self.inside.entries) c.self.inside.limit c.args.self.now.tasks
+    c.self.inside.entries.room c.self.inside.limit c.args.self.now.tasks
 after c = kept_entry (kept_of _ _ _ _ _ _ _ c.self.view_is c.self.invariant) c.in-Ok.position c.index_mut.result.now _ c.index_mut.ensures.value refl refl refl
 
 pub invariant_of-self : goal.invariant_of-self

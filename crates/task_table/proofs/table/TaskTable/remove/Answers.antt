@@ -1,5 +1,5 @@
 use Rattle.std.proofs.Common.{List, Some, option_map, inl, inr, eq-eqb, ne_eqb, arith, ◌∙◌, sym, ap, not}
-use Rattle.std.specs.Prelude.{filter, find, is_some, vec_capacity}
+use Rattle.std.specs.Prelude.{filter, find, is_some}
 use Rattle.cs_types.specs.Room.{has_pid}
 use Rattle.std.proofs.lemmas.Bool.{cases_eq, cond-true, cond-false}
 use Rattle.cs_types.specs.declared.task.Task.{Task}
@@ -34,7 +34,7 @@ returns-in_default-clause-totals c other =
 
 pub remove-entry-requires : goal.remove-entry-requires
 remove-entry-requires c =
-    omega (arith, c.self.inside.entries.ok.0, position_within (kept_of _ _ _ _ _ _ _ c.self.view_is c.self.invariant) c.args.pid c.in-Ok.position c.in-Ok.ensures.position)
+    omega (arith, position_within (kept_of _ _ _ _ _ _ _ c.self.view_is c.self.invariant) c.args.pid c.in-Ok.position c.in-Ok.ensures.position)
 
 pub remove-task-requires : goal.remove-task-requires
 remove-task-requires c =
@@ -72,12 +72,12 @@ grouped c =
 
 after : (c : goal.After-forget) → IsKept c.remove-task.new.self c.remove-entry.new.self.items
     c.remove.new.self.all.items c.remove-2.new.self.all.items
-    (vec_capacity c.remove-entry.new.self) c.self.inside.limit (filter (λ task. not (has_pid c.args.pid task)) c.args.self.now.tasks)
+    c.remove-entry.new.self.room c.self.inside.limit (filter (λ task. not (has_pid c.args.pid task)) c.args.self.now.tasks)
 after c =
     let kept = kept_of _ _ _ _ _ _ _ c.self.view_is c.self.invariant in
     kept_remove kept c.remove-task.new.self c.remove-entry.new.self.items _ c.args.pid c.in-Ok.position c.remove-entry.result (grouped c) c.in-Ok.ensures.position
-    c.remove-entry.ensures.value c.remove-task.ensures.updates c.remove-task.ensures.len
-    c.remove-task.ensures.capacity c.remove-entry.ensures.capacity c.remove-entry.ensures.items
+    c.remove-entry.ensures.value c.remove-task.ensures.updates c.remove-task.ensures.count
+    c.remove-task.ensures.room c.remove-entry.ensures.room c.remove-entry.ensures.items
 
 pub invariant_of-self : goal.invariant_of-self
 invariant_of-self c = kept_again (after c)

@@ -14,7 +14,6 @@ returns-in-All-clause-count c =
       ap length (all_members c.args.self.now.tasks),
       kept_length kept,
       c.len.ensures,
-      c.self.inside.entries.ok.0,
       kept.sound.few,
       kept.sound.limit,
     ))

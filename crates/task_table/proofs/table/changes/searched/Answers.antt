@@ -1,6 +1,6 @@
 use Rattle.std.proofs.Common.{arith, length, lt-ltb}
 use Rattle.task_table.proofs.Rising.{none_gap, find_none, at_within}
-use Rattle.task_table.proofs.Slots.{length_both}
+use Rattle.task_table.proofs.Held.{length_both}
 use Rattle.task_table.specs.declared.entry.Entry.{Entry}
 use Rattle.task_table.specs.Table.{pid_of}
 use Rattle.task_table.proofs.table.changes.searched.Goals as goal

@@ -5,7 +5,7 @@ use Rattle.cs_types.specs.declared.task.Task.{Task}
 use Rattle.task_table.specs.declared.entry.Entry.{Entry}
 use Rattle.task_table.specs.Group.{is_in_group}
 use Rattle.task_table.specs.Inside.{tasks_at, tells_group, IsWalk}
-use Rattle.task_table.proofs.Slots.{steps_from, steps_out, goes_on}
+use Rattle.task_table.proofs.Held.{steps_from, steps_out, goes_on}
 use Rattle.task_table.proofs.Walks.{walk_from, walked_to, walked_out}
 use Rattle.task_table.proofs.tasks.TasksIterator.next.Goals as goal
 

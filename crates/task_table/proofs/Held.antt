@@ -4,7 +4,7 @@ use Rattle.std.specs.Prelude.{insert, remove, slice_get, option_copied}
 use Rattle.std.specs.Iterator.{YieldsFirstRef, MakesProgress, item_count}
 use Rattle.std.specs.List.{AllByRecursion}
 use Rattle.std.proofs.lemmas.List.{length-map, drop-map}
-use Rattle.slab.specs.Slab.{Slab, get, Updates}
+use Rattle.task_table.specs.Slots.{Slotted, get, Updates}
 use Rattle.cs_types.specs.declared.task.Task.{Task}
 use Rattle.task_table.specs.declared.entry.Entry.{Entry}
 use Rattle.task_table.specs.Table.{pid_of, RisesFrom}
@@ -46,7 +46,7 @@ length_both f g xs ys alike = sym (length-map xs f) ∙ ap length alike ∙ leng
 -- ---- what the entries hold
 
 -- the tasks that the slots have are the tasks in the slots
-pub listed : (slots : Slab Task) (entries : List Entry) (tasks : List Task) → Holds slots entries tasks → tasks_at slots entries ≡ tasks
+pub listed : (slots : Slotted) (entries : List Entry) (tasks : List Task) → Holds slots entries tasks → tasks_at slots entries ≡ tasks
 listed slots [] [] holds = refl
 listed slots [] (task ∷ tasks) holds = absurd cc
 listed slots (entry ∷ entries) [] holds = absurd cc
@@ -55,11 +55,11 @@ listed slots (entry ∷ entries) (task ∷ tasks) holds =
     rw head (ap (λ (ts : List Task). task ∷ ts) (listed slots entries tasks cc))
 
 -- and each entry has one of them
-pub filled : (slots : Slab Task) (entries : List Entry) (tasks : List Task) → Holds slots entries tasks → EachFilled slots entries
+pub filled : (slots : Slotted) (entries : List Entry) (tasks : List Task) → Holds slots entries tasks → EachFilled slots entries
 filled slots entries tasks holds = subst (Holds slots entries) (sym (listed slots entries tasks holds)) holds
 
 -- the entries from a position on hold the tasks from there on
-pub holds_drop : (slots : Slab Task) (entries : List Entry) (tasks : List Task) (position : ℕ) → Holds slots entries tasks →
+pub holds_drop : (slots : Slotted) (entries : List Entry) (tasks : List Task) (position : ℕ) → Holds slots entries tasks →
     Holds slots (drop position entries) (drop position tasks)
 holds_drop slots entries tasks position holds =
     sym (drop-map (slot_of slots) position entries) ∙ ap (drop position) holds ∙ drop-map Some position tasks
@@ -82,7 +82,7 @@ goes_on may left None rest steps = record { on = λ _. tt; keeps = tt; rests = �
 goes_on may left (Some at) rest steps = record { on = λ _. (may rest, tt, omega (arith, ap length steps)); keeps = may rest; rests = λ _. tt }
 
 -- the task at a position is in the slot of the entry there
-pub slot_at : (slots : Slab Task) (entries : List Entry) (tasks : List Task) → Holds slots entries tasks → (i : ℕ) (d : Entry) →
+pub slot_at : (slots : Slotted) (entries : List Entry) (tasks : List Task) → Holds slots entries tasks → (i : ℕ) (d : Entry) →
     i < length entries → slot_of slots (get_or entries i d) ≡ slice_get tasks i
 slot_at slots [] tasks holds i d within = absurd (omega arith)
 slot_at slots (entry ∷ entries) [] holds i d within = absurd cc
@@ -95,7 +95,7 @@ slot_at slots (entry ∷ entries) (task ∷ tasks) holds (suc i) d within = slot
 abbrev pub Elsewhere : ℕ → List Entry → Type 0
 Elsewhere key entries = AllByRecursion (λ entry. entry.key ≢ key) entries
 
-pub same_elsewhere : (old new : Slab Task) (key : ℕ) (slot : Option Task) → Updates old new key slot → (entries : List Entry) →
+pub same_elsewhere : (old new : Slotted) (key : ℕ) (slot : Option Task) → Updates old new key slot → (entries : List Entry) →
     Elsewhere key entries → map (slot_of new) entries ≡ map (slot_of old) entries
 same_elsewhere old new key slot updates [] apart = refl
 same_elsewhere old new key slot updates (entry ∷ entries) apart =
@@ -104,7 +104,7 @@ same_elsewhere old new key slot updates (entry ∷ entries) apart =
     cc
 
 -- an empty slot is no entry's
-pub empty_elsewhere : (slots : Slab Task) (key : ℕ) → get slots key ≡ None → (entries : List Entry) (tasks : List Task) →
+pub empty_elsewhere : (slots : Slotted) (key : ℕ) → get slots key ≡ None → (entries : List Entry) (tasks : List Task) →
     Holds slots entries tasks → Elsewhere key entries
 empty_elsewhere slots key empty [] tasks holds = tt
 empty_elsewhere slots key empty (entry ∷ entries) [] holds = absurd cc
@@ -113,7 +113,7 @@ empty_elsewhere slots key empty (entry ∷ entries) (task ∷ tasks) holds =
     (λ same. let found = sym (ap (get slots) same) ∙ head in absurd cc, empty_elsewhere slots key empty entries tasks cc)
 
 -- a slot with a pid below them all is none of theirs
-pub above_elsewhere : (slots : Slab Task) (key : ℕ) (at : Task) → get slots key ≡ Some at → (low : ℕ) → at.spec.pid < low →
+pub above_elsewhere : (slots : Slotted) (key : ℕ) (at : Task) → get slots key ≡ Some at → (low : ℕ) → at.spec.pid < low →
     (entries : List Entry) (tasks : List Task) → Holds slots entries tasks → RisesFrom low tasks → Elsewhere key entries
 above_elsewhere slots key at here low lt [] tasks holds rises = tt
 above_elsewhere slots key at here low lt (entry ∷ entries) [] holds rises = absurd cc
@@ -125,7 +125,7 @@ above_elsewhere slots key at here low lt (entry ∷ entries) (task ∷ tasks) ho
     )
 
 -- the slot of a position is no other entry's
-pub others_elsewhere : (slots : Slab Task) (key : ℕ) (at : Task) → get slots key ≡ Some at → (position : ℕ) (entries : List Entry)
+pub others_elsewhere : (slots : Slotted) (key : ℕ) (at : Task) → get slots key ≡ Some at → (position : ℕ) (entries : List Entry)
     (tasks : List Task) → Holds slots entries tasks → IsAt at.spec.pid position tasks → Elsewhere key (remove entries position)
 others_elsewhere slots key at here position entries [] holds is_at = absurd is_at
 others_elsewhere slots key at here position [] (task ∷ tasks) holds is_at = absurd cc
@@ -141,7 +141,7 @@ others_elsewhere slots key at here (suc position) (entry ∷ entries) (task ∷ 
 -- ---- edits
 
 -- a task goes into an empty slot
-pub holds_insert : (old new : Slab Task) (key : ℕ) (task : Task) → get old key ≡ None → Updates old new key (Some task) →
+pub holds_insert : (old new : Slotted) (key : ℕ) (task : Task) → get old key ≡ None → Updates old new key (Some task) →
     (entries : List Entry) (tasks : List Task) (position : ℕ) (entry : Entry) → entry.key ≡ key → Holds old entries tasks →
     Holds new (insert entries position entry) (insert tasks position task)
 holds_insert old new key task empty updates entries tasks position entry at holds =
@@ -150,7 +150,7 @@ holds_insert old new key task empty updates entries tasks position entry at hold
     (ap (get new) at ∙ updates.changed)
 
 -- the task at a position leaves its slot
-pub holds_remove : (old new : Slab Task) (key : ℕ) (at : Task) → get old key ≡ Some at → Updates old new key None →
+pub holds_remove : (old new : Slotted) (key : ℕ) (at : Task) → get old key ≡ Some at → Updates old new key None →
     (entries : List Entry) (tasks : List Task) (position : ℕ) → IsAt at.spec.pid position tasks → Holds old entries tasks →
     Holds new (remove entries position) (remove tasks position)
 holds_remove old new key at here updates entries tasks position is_at holds =
@@ -158,7 +158,7 @@ holds_remove old new key at here updates entries tasks position is_at holds =
     ∙ remove_both (slot_of old) Some entries tasks position holds
 
 -- the slot of a position gets another task
-pub holds_set : (old new : Slab Task) (key : ℕ) (task : Task) → Updates old new key (Some task) →
+pub holds_set : (old new : Slotted) (key : ℕ) (task : Task) → Updates old new key (Some task) →
     (entries : List Entry) (tasks : List Task) (position : ℕ) (d : Entry) → position < length entries → (get_or entries position d).key ≡ key →
     Elsewhere key (remove entries position) → Holds old entries tasks → Holds new entries (set tasks position task)
 holds_set old new key task updates [] tasks position d within at apart holds = absurd (omega arith)
