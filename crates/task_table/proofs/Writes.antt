@@ -1,8 +1,8 @@
 -- Writes: what a write of one slot changes.
-use Rattle.std.proofs.Common.{◌≡◌, ℕ, ◌<◌, length, get_or, set, Option, Some, None, refl, arith}
+use Rattle.std.proofs.Common.{◌≡◌, ℕ, ◌<◌, length, set, Option, Some, None, refl, arith}
 use Rattle.std.proofs.lemmas.List.{get_or-set_same, get_or-set_other, get_or_past}
 use Rattle.cs_types.specs.declared.task.Task.{Task}
-use Rattle.task_table.specs.Slots.{Slotted, get, IsFilled, with_task, Updates}
+use Rattle.task_table.specs.Slots.{Slotted, IsFilled, with_task, Updates}
 
 -- a slot that has a task was used
 pub filled_within : (slots : Slotted) (key : ℕ) → IsFilled slots key → key < length slots.slots
