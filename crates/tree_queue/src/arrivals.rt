@@ -78,15 +78,17 @@ impl Arrivals {
         ensures told { IsTrue result → AreTold (map mover_of (queued_among table.now.tasks cpu)) movers.new }
         ensures each { length movers.new ≡ length movers.old }
     {
-        if self.moved.len() + self.entries.len() > 2 * count + 16 {
+        let moved = self.moved.as_slice();
+        let entries = self.entries.as_slice();
+        if moved.len() + entries.len() > 2 * count + 16 {
             return false;
         }
-        let Some(past) = self.base.checked_add(self.moved.len() as u64) else {
+        let Some(past) = self.base.checked_add(moved.len() as u64) else {
             return false;
         };
-        let (back, new) = self.entries.split_at(self.behind());
+        let (back, new) = entries.split_at(self.behind());
         let told = tell_entries(back, 0, self.base, table, cpu, movers, 0);
-        let told = tell_moved(&self.moved, self.base, table, cpu, movers, told);
+        let told = tell_moved(moved, self.base, table, cpu, movers, told);
         let told = tell_entries(new, past, u64::MAX, table, cpu, movers, told);
         told == count
     }

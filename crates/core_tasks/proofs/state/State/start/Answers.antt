@@ -56,5 +56,5 @@ returns g c = record {
         intervals = 0;
         totals = λ pid. total_of pid [];
       });
-  ends = c.in_ok-ended.ensures.exact;
+  ends = c.in_ok-ended.ensures.room;
 }

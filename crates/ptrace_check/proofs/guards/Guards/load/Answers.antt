@@ -1,4 +1,4 @@
-use Rattle.std.proofs.Common.{◌≡◌, ◌∷◌, ◌++◌, [], length, refl, ap, ◌∙◌, sym}
+use Rattle.std.proofs.Common.{length, refl, ap, ◌∙◌, sym}
 use Rattle.ptrace_check.specs.Answers.{load_answer}
 use Rattle.ptrace_check.proofs.Seats.{guard_in, past_from, caps-set_alike}
 use Rattle.ptrace_check.proofs.Loads.{load_adds, load_keeps, load_stays, load_refused, load_answer-past, load-past, room_to_load}
