@@ -161,6 +161,10 @@ rank_of : (first : Option Task) → IsRank (class_of_first first) (rank_of_first
 rank_of None = record { below = omega arith; stop = λ is. refl; idle = λ is. refl }
 rank_of (Some task) = is_rank task.spec.policy task.deadline task.vtime
 
+-- a low time is below the number from which snapshots are taken
+pub below_all : {n : ℕ} → n < 2 ^ 100 → n < 2 ^ 127
+below_all low = omega (arith, low)
+
 module _ (room : RoomState) (low : (cpu : ℕ) → snapshot_of room cpu < 2 ^ 100) where
   low_snapshot : (first : Option Task) → snapshot_of_first (snapshot_of room) first < 2 ^ 100
   low_snapshot None = omega arith
@@ -172,8 +176,8 @@ module _ (room : RoomState) (low : (cpu : ℕ) → snapshot_of room cpu < 2 ^ 10
       let first = rank_of one in
       let second = rank_of two in
       outranks-offer_of (snapshot_of room) 0 0 one two is_one is_two
-      ∙ by_places (class_of_first one) (class_of_first two) (rank_of_first one) (rank_of_first two) (snapshot_of_first (snapshot_of room) one) (snapshot_of_first (snapshot_of room) two) (2 ^ 100)
-      first.below second.below first.stop first.idle second.stop second.idle (low_snapshot one) (low_snapshot two)
+      ∙ by_places (class_of_first one) (class_of_first two) (rank_of_first one) (rank_of_first two) (snapshot_of_first (snapshot_of room) one) (snapshot_of_first (snapshot_of room) two) (2 ^ 127)
+      first.below second.below first.stop first.idle second.stop second.idle (below_all (low_snapshot one)) (below_all (low_snapshot two))
 
   pub higher-kept_in : (one two : Option Task) → IsFirst one → IsFirst two →
       cond (is_above (kept_in room two) (kept_in room one)) (kept_in room two) (kept_in room one) ≡ kept_in room (higher_of (snapshot_of room) one two)

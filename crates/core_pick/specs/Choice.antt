@@ -1,24 +1,19 @@
 -- Choice: what the lead and the choices of a selection are made of, and what the choices make of tasks.
-use Rattle.std.specs.Prelude.{◌≡◌, ℕ, ◌+◌, ◌-◌, ◌^◌, ◌<◌, Bool, false, ◌==◌, ◌&&◌, ◌||◌, nat_lt, if◌then◌else◌, List, length, map, Option, Some, None, is_some, unwrap_or}
+use Rattle.std.specs.Prelude.{◌≡◌, ℕ, ◌+◌, ◌<◌, Bool, false, ◌==◌, ◌&&◌, if◌then◌else◌, List, length, map, Option, Some, None, is_some, unwrap_or}
 use Rattle.std.specs.List.{range_with_len}
 use Rattle.std.specs.Option.{option_and_then}
 use Rattle.cs_types.specs.Room.{RoomState, is_online}
-use Rattle.cs_types.specs.Order.{fair_class, idle_class, foremost, outranks}
+use Rattle.cs_types.specs.Order.{idle_class, foremost, outranks}
 use Rattle.cs_types.specs.Selection.{first_on, snapshot_of, is_run, pid_of, cookie_of, choice, is_forced, forced_count, occupation_of, renews_snapshots, select_for, sibling_after_selection, task_after_selection}
 use Rattle.task_table.specs.Table.{Table}
 use Rattle.core_lanes.specs.declared.lane.Lane.{Lane}
 use Rattle.core_lanes.specs.Lanes.{lane_state}
-use Rattle.sibling_priority.specs.Offers.{class_of_first, rank_of_first, snapshot_of_first}
+use Rattle.sibling_priority.specs.Offers.{class_of_first, rank_of_first, snapshot_of_first, rank_across, is_above as stands_above}
+use Rattle.sibling_priority.specs.declared.standing.Standing.{Standing}
 use Rattle.core_pick.specs.declared.choice.Choice.{Choice}
 use Rattle.core_pick.specs.declared.choice.Counts.{Counts}
 use Rattle.core_pick.specs.declared.lead.First.{First}
 use Rattle.cs_types.specs.declared.task.Task.{Task}
-
--- The rank of a sibling's first task among those of its class on all siblings, by its class and its own rank, the smaller the
--- higher: its own. Of a fair one the snapshot of the sibling is taken off, and a number that no snapshot comes to is added
--- before, so that nothing is below 0.
-abbrev pub rank_across : ℕ → ℕ → ℕ → ℕ
-rank_across snapshot class rank = if class == fair_class then rank + 2 ^ 100 - snapshot else rank
 
 -- a task that a sibling gets, or idle
 abbrev pub choice_of : Option Task → Choice
@@ -36,11 +31,12 @@ first_kept snapshot first = record { rank_across = rank_across snapshot (class_o
 abbrev pub kept_in : RoomState → Option Task → First
 kept_in room first = first_kept (snapshot_of_first (snapshot_of room) first) first
 
--- whether one first is higher than another: its class is, or that is the same and its rank is
+-- how a first stands among those of all siblings, and whether one stands above another
+abbrev pub standing_of : First → Standing
+standing_of first = record { class = first.choice.class; rank = first.rank_across }
+
 abbrev pub is_above : First → First → Bool
-is_above first other =
-    nat_lt first.choice.class other.choice.class
-    || ((first.choice.class == other.choice.class) && nat_lt first.rank_across other.rank_across)
+is_above first other = stands_above (standing_of first) (standing_of other)
 
 -- ---- what is asked of the siblings
 

@@ -5,14 +5,12 @@ ghost use Rattle.std.specs.Prelude.{◌≡◌, None, Option, Some, option_copied
 ghost use Rattle.std.specs.Option.{option_map};
 ghost use Rattle.cs_types.specs.declared.task.Task.{Task};
 ghost use Rattle.cs_types.specs.Queue.{queued_of};
-ghost use Rattle.core_pick.specs.Choice.{rank_across, first_kept, is_above};
+ghost use Rattle.core_pick.specs.Choice.{first_kept, standing_of, is_above};
 ghost use Rattle.core_pick.specs.Schedules.{MayKeep};
 
 use crate::choice::Choice;
 use cs_types::Queued;
-
-/// Above each snapshot, in ns: it is added before one is taken off.
-const ABOVE_SNAPSHOTS: u128 = 1 << 100;
+use sibling_priority::{Standing, rank_across};
 
 /// What a selection keeps of the first task of a sibling, which is less than the task, or of idle.
 #[derive(Clone, Copy)]
@@ -35,13 +33,15 @@ impl First {
         }
     }
 
-    /// Whether it is higher than another (`prio_less`): its class is, or both are of one class and its rank is.
+    /// How it stands among the firsts of all siblings.
     #[inline(always)]
-    fn is_higher(&self, other: &First) -> bool
-        ensures { result ≡ is_above self.now other.now }
+    fn standing(&self) -> Standing
+        ensures { result ≡ standing_of self.now }
     {
-        let (class, other_class) = (self.choice.class, other.choice.class);
-        class < other_class || (class == other_class && self.rank_across < other.rank_across)
+        Standing {
+            class: self.choice.class,
+            rank: self.rank_across,
+        }
     }
 
     /// The higher of the two, this one where they tie.
@@ -49,20 +49,11 @@ impl First {
     pub fn or_higher(self, other: First) -> First
         ensures { result ≡ (if is_above other self then other else self) }
     {
-        if other.is_higher(&self) { other } else { self }
-    }
-}
-
-/// The rank of a first task among those of its class on all siblings, under the snapshot of its own.
-#[inline(always)]
-fn rank_across(first: &Queued, snapshot: u128) -> u128
-    requires { MayKeep snapshot (Some first.now) }
-    ensures { result ≡ rank_across snapshot first.now.class first.now.rank }
-{
-    if first.class == Queued::FAIR {
-        first.rank + ABOVE_SNAPSHOTS - snapshot
-    } else {
-        first.rank
+        if other.standing().is_above(&self.standing()) {
+            other
+        } else {
+            self
+        }
     }
 }
 
@@ -75,7 +66,7 @@ pub fn first_kept(first: Option<&Queued>, snapshot: u128) -> First
     match first {
         None => First::idle(),
         Some(queued) => First {
-            rank_across: rank_across(queued, snapshot),
+            rank_across: rank_across(queued.class, queued.rank, snapshot),
             choice: Choice::of(queued),
         },
     }

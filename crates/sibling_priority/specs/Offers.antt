@@ -1,5 +1,5 @@
 -- Offers: which of two is higher (`prio_less`, kernel/sched/core.c), and which offer stands for a task.
-use Rattle.std.specs.Prelude.{◌≡◌, ℕ, ◌+◌, ◌^◌, ◌<◌, Bool, ◌==◌, ◌&&◌, ◌||◌, not, nat_lt, List, map, All, Option, Some, None, IfSome, unwrap_or}
+use Rattle.std.specs.Prelude.{◌≡◌, ℕ, ◌+◌, ◌-◌, ◌^◌, ◌<◌, Bool, ◌==◌, ◌&&◌, ◌||◌, not, nat_lt, if◌then◌else◌, List, map, All, Option, Some, None, IfSome, unwrap_or}
 use Rattle.std.specs.List.{list_all}
 use Rattle.std.specs.Option.{option_map_or}
 use Rattle.cs_types.specs.declared.task.Task.{Task}
@@ -8,6 +8,7 @@ use Rattle.cs_types.specs.Order.{deadline_class, real_time_class, fair_class, id
 use Rattle.cs_types.specs.Selection.{pid_of}
 use Rattle.cs_types.specs.Queue.{rank_by}
 use Rattle.sibling_priority.specs.declared.offer.Offer.{Offer}
+use Rattle.sibling_priority.specs.declared.standing.Standing.{Standing}
 
 -- ---- the order
 
@@ -32,6 +33,30 @@ is_highest offers offer = list_all (λ other. not (is_higher_offer other offer))
 -- the rank and the snapshot of a fair offer, so small that a sum of two of them fits 128 bits
 abbrev pub IsInRange : Offer → Type 0
 IsInRange offer = offer.class ≡ fair_class → (offer.rank < 2 ^ 127) × (offer.snapshot < 2 ^ 127)
+
+-- ---- how an offer stands
+
+-- The rank of a first task among those of its class on all siblings, by the snapshot of its own sibling, its class and its
+-- rank: its rank. Of a fair one the snapshot is taken off, and a number that no snapshot comes to is added before, so that
+-- nothing is below 0.
+abbrev pub rank_across : ℕ → ℕ → ℕ → ℕ
+rank_across snapshot class rank = if class == fair_class then rank + 2 ^ 127 - snapshot else rank
+
+-- whether one stands above another: its class is smaller, or that is the same and its rank is
+abbrev pub is_above : Standing → Standing → Bool
+is_above a b = nat_lt a.class b.class || ((a.class == b.class) && nat_lt a.rank b.rank)
+
+-- whether tasks of a class are ranked, as those of the deadline, the real-time and the fair class are
+abbrev pub is_ranked : ℕ → Bool
+is_ranked class = (class == deadline_class) || (class == real_time_class) || (class == fair_class)
+
+-- how an offer stands: by its rank across siblings, and by 0 where its class has no ranks
+abbrev pub standing_of : Offer → Standing
+standing_of offer =
+    record {
+      class = offer.class;
+      rank = if is_ranked offer.class then rank_across offer.snapshot offer.class offer.rank else 0;
+    }
 
 -- ---- the offer of a first task
 

@@ -1,13 +1,30 @@
-//! Which of two offers is higher, and the lead of many: the order across siblings, as the kernel has it. A
-//! selection compares what it keeps of its firsts by the same order (`First::is_higher` of `core_pick`).
+//! Which of two offers is higher, and the lead of many: the order across siblings, as the kernel has it.
 
 ghost use Rattle.std.specs.Prelude.{◌≡◌, ℕ, ◌<◌, length, All, List, [], ◌∷◌, Option, Some, None, position, slice_index_or};
 ghost use Rattle.cs_types.specs.declared.task.Task.{Task};
 ghost use Rattle.cs_types.specs.Order.{foremost, outranks};
-ghost use Rattle.sibling_priority.specs.Offers.{is_higher_offer, is_highest, IsInRange, AreOffersOf};
+ghost use Rattle.sibling_priority.specs.Offers.{is_higher_offer, is_highest, standing_of, IsInRange, AreOffersOf};
 
 use crate::offer::Offer;
+use crate::standing::{Standing, rank_across};
 use cs_types::Queued;
+
+/// How an offer stands. Nothing reads the rank of the stop task and of idle.
+fn standing_of(offer: &Offer) -> Standing
+    requires { IsInRange offer.now }
+    ensures { result ≡ standing_of offer.now }
+{
+    let rank = match offer.class {
+        Queued::DEADLINE | Queued::REAL_TIME | Queued::FAIR => {
+            rank_across(offer.class, offer.rank, offer.snapshot)
+        }
+        _ => 0,
+    };
+    Standing {
+        class: u32::from(offer.class),
+        rank,
+    }
+}
 
 /// Whether one offer is higher than another, where every pair that this leaves open is a tie
 /// (`prio_less` in kernel/sched/core.c with its sides swapped, and `cfs_prio_less` in
@@ -22,15 +39,7 @@ pub fn higher(a: &Offer, b: &Offer) -> bool
     ensures model { (snapshot : ℕ → ℕ) (first second : Option Task) →
         AreOffersOf snapshot (first ∷ second ∷ []) (a.now ∷ b.now ∷ []) → result ≡ outranks snapshot first second }
 {
-    if a.class != b.class {
-        return a.class < b.class;
-    }
-    match a.class {
-        Queued::DEADLINE | Queued::REAL_TIME => a.rank < b.rank,
-        // Each rank less its own snapshot, moved across so that no difference is below 0.
-        Queued::FAIR => a.rank + b.snapshot < b.rank + a.snapshot,
-        _ => false,
-    }
+    standing_of(a).is_above(&standing_of(b))
 }
 
 /// The index of the lead: the first offer than which no other is higher (`max` in

@@ -5,7 +5,10 @@ use Rattle.cs_types.specs.declared.queue.Queued.{Queued}
 use Rattle.cs_types.specs.declared.task.Task.{Task}
 use Rattle.cs_types.specs.Queue.{queued_of}
 use Rattle.core_pick.specs.declared.lead.First.{First}
-use Rattle.core_pick.specs.Choice.{rank_across, first_kept}
+use Rattle.sibling_priority.specs.Offers.{rank_across}
+use Rattle.core_pick.specs.Choice.{first_kept}
+use Rattle.core_pick.specs.Schedules.{MayKeep}
+use Rattle.core_pick.proofs.Leads.{below_all}
 use Rattle.core_pick.proofs.lead.first_kept.Goals as goal
 
 -- what is kept of idle
@@ -21,8 +24,13 @@ kept_some : (snapshot : ℕ) (queued : Queued) (task : Option Task) → Some que
 kept_some snapshot queued None is = absurd cc
 kept_some snapshot queued (Some task) is = let same : queued ≡ queued_of task = cc in ap (kept_by snapshot) same
 
-pub rank_across-requires : goal.rank_across-requires
-rank_across-requires c = rw c.in-Some.is at c.requires
+pub rank_across-requires-clause-rank : goal.rank_across-requires-clause-rank
+rank_across-requires-clause-rank c fair =
+    let may : MayKeep c.args.snapshot (Some c.in-Some.queued.now) = rw c.in-Some.is at c.requires in below_all (may.vtime fair)
+
+pub rank_across-requires-clause-snapshot : goal.rank_across-requires-clause-snapshot
+rank_across-requires-clause-snapshot c fair =
+    let may : MayKeep c.args.snapshot (Some c.in-Some.queued.now) = rw c.in-Some.is at c.requires in below_all may.snapshot_low
 
 pub returns-in-None : goal.returns-in-None
 returns-in-None c task is = c.idle.ensures ∙ kept_none c.args.snapshot task (ap option_copied (sym c.in-None.is) ∙ is)
