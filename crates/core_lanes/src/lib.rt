@@ -8,7 +8,6 @@ mod lanes;
 mod moving;
 mod order;
 mod queue;
-mod queued;
 mod told;
 
 pub use account::charge;
@@ -16,5 +15,4 @@ pub use lane::Lane;
 pub use lanes::{Core, task_of};
 pub use order::{goes_before, is_fair, is_higher, is_peer_of};
 pub use queue::{MOST_TASKS, SiblingQueue, is_on};
-pub use queued::queued_of;
 pub use told::tell_by_stamp;

@@ -6,9 +6,10 @@ ghost use Rattle.core_lanes.specs.Queued.{queued_among, mover_of};
 
 use arrayvec::ArrayVec;
 use core_lanes::{
-    MOST_TASKS, SiblingQueue, goes_before, is_fair, is_on, is_peer_of, queued_of, tell_by_stamp,
+    MOST_TASKS, SiblingQueue, goes_before, is_fair, is_on, is_peer_of, tell_by_stamp,
 };
 use cs_types::{Cookie, Cpu, OutOfMemory, Pid, Queued, Steps, Task};
+use run_queue::queued_of;
 use std::alloc::Global;
 use std::sync::ledger::Ledger;
 use task_table::TaskTable;

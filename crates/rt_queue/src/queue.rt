@@ -1,6 +1,6 @@
 //! The queue of the real-time tasks, and the rank by which they stand in it.
 
-ghost use Rattle.std.specs.Prelude.{◌≡◌, ℕ};
+ghost use Rattle.std.specs.Prelude.{◌≡◌, ℕ, ◌<◌};
 ghost use Rattle.cs_types.specs.declared.task.Policy.TheVariants.{Fifo, Rr};
 ghost use Rattle.cs_types.specs.Queue.{rank_by};
 
@@ -14,6 +14,7 @@ pub type RtQueue = RankTree;
 pub fn rank(priority: u8) -> u128
     ensures fifo { (deadline vtime : ℕ) → result ≡ rank_by (Fifo priority) deadline vtime }
     ensures rr { (deadline vtime : ℕ) → result ≡ rank_by (Rr priority) deadline vtime }
+    ensures few { result < 100 }
 {
     u128::from(99u8.saturating_sub(priority))
 }

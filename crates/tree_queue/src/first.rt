@@ -8,25 +8,32 @@ ghost use Rattle.cs_types.specs.Comparisons.{most_comparisons};
 ghost use Rattle.cs_types.specs.declared.queue.Queued.{Queued as SomeQueued};
 ghost use Rattle.tree_queue.specs.Held.{seated, is_before, earlier, first_among, is_of, given_cookie, IsIn, IsInBut};
 
-use core_lanes::queued_of;
 use cs_types::{Cookie, Pid, Queued, Steps};
-use run_queue::RunQueue;
+use order_tree::Key;
+use run_queue::{RunQueue, queued_of};
 use std::sync::ledger::Ledger;
 use task_table::TaskTable;
 
-/// Whether the task stands before the other: its class is smaller, or in one class its rank, or at one rank its
-/// stamp.
+/// The key of the task, as one tree of all tasks of its sibling would have it.
+#[inline(always)]
+fn key_of(task: &Queued) -> Key
+    ensures { result ≡ record { group = 0; class = task.now.class; rank = task.now.rank; stamp = task.now.stamp } }
+{
+    Key {
+        group: 0,
+        class: task.class,
+        rank: task.rank,
+        stamp: task.stamp,
+    }
+}
+
+/// Whether the task stands before the other, as a tree has them: its class is smaller, or in one class its rank, or
+/// at one rank its stamp.
 #[inline(always)]
 fn is_before(task: &Queued, other: &Queued) -> bool
     ensures { result ≡ is_before task.now other.now }
 {
-    if task.class != other.class {
-        return task.class < other.class;
-    }
-    if task.rank != other.rank {
-        return task.rank < other.rank;
-    }
-    task.stamp < other.stamp
+    key_of(task).is_below(&key_of(other))
 }
 
 /// A task enters: it is the first, unless the first is before it.

@@ -20,9 +20,7 @@ pub fn kind_of(task: &Task) -> usize
     match task.spec.policy {
         Policy::Stop => 0,
         Policy::Deadline(_) => 1,
-        Policy::Fifo(priority) | Policy::Rr(priority) => {
-            4 + usize::from(99u8.saturating_sub(priority))
-        }
+        Policy::Fifo(priority) | Policy::Rr(priority) => 4 + rt_queue::rank(priority) as usize,
         Policy::Fair(_) => 3,
     }
 }

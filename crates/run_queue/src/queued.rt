@@ -5,17 +5,17 @@ ghost use Rattle.cs_types.specs.Queue.{rank_by, queued_of};
 
 use cs_types::{Policy, Queued, Task};
 
-/// The rank of the task in its class, the smaller the higher: 0 for a stop task, its absolute deadline in ns, 99 less
-/// its priority, its virtual time in ns.
+/// The rank of the task in its class, the smaller the higher, as its class has it. Stop tasks stand by their stamps
+/// alone, so each has rank 0.
 fn rank_of(task: &Task) -> u128
     ensures { result ≡ rank_by task.now.spec.policy task.now.deadline task.now.vtime }
 {
     match task.spec.policy {
         Policy::Stop => 0,
-        Policy::Deadline(_) => u128::from(task.deadline),
-        Policy::Fifo(priority) => u128::from(99u8.saturating_sub(priority)),
-        Policy::Rr(priority) => u128::from(99u8.saturating_sub(priority)),
-        Policy::Fair(_) => task.vtime,
+        Policy::Deadline(_) => deadline_queue::rank(task.deadline),
+        Policy::Fifo(priority) => rt_queue::rank(priority),
+        Policy::Rr(priority) => rt_queue::rank(priority),
+        Policy::Fair(_) => fair_queue::rank(task.vtime),
     }
 }
 
