@@ -12,7 +12,7 @@ mod tree;
 
 pub use key::Key;
 pub use movers::Movers;
-pub use order::OrderTree;
+pub use order::{Closed, OrderTree};
 pub use rank::RankTree;
 pub use recent::RecentTree;
 pub use renewal::Renewal;

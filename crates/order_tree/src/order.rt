@@ -1,7 +1,8 @@
-//! The tree with the nodes that are spare. It is apart since here alone memory is taken.
+//! The tree with the nodes that are spare. It is apart since here alone memory is taken, and that before the tree is
+//! closed.
 
 ghost use Rattle.std.specs.Prelude as list;
-ghost use Rattle.std.specs.Prelude.{◌≡◌, ◌+◌, ◌*◌, ◌^◌, ◌<◌, ◌≤◌, max, None, OnOk, OnErr, if◌then◌else◌, length, slice_get, vec_capacity, ◌++◌, IsTrue};
+ghost use Rattle.std.specs.Prelude.{◌≡◌, ◌+◌, ◌*◌, ◌^◌, ◌<◌, ◌≤◌, max, None, IfOk, OnOk, OnErr, if◌then◌else◌, length, slice_get, ◌++◌, IsTrue};
 ghost use Rattle.std.specs.FinMap as map;
 ghost use Rattle.std.specs.Option.{option_map};
 ghost use Rattle.cs_types.specs.Comparisons.{digits};
@@ -14,6 +15,7 @@ use crate::key::Key;
 use crate::movers::Movers;
 use crate::renewal::Renewal;
 use crate::tree::{Node, Tree};
+use bounded_list::BoundedList;
 use cs_types::{OutOfMemory, Pid, Steps};
 use std::alloc::Global;
 use std::marker::Model;
@@ -22,21 +24,27 @@ use std::sync::ledger::Ledger;
 
 /// Pids at keys, in rising order of the keys. A call that looks for a key counts each comparison of two
 /// keys, and among n keys makes at most twice the number of binary digits of n.
+///
+/// The parameter is what it takes memory from. Once it is `Closed` there is no call that could take any.
 #[derive(Drop)]
-pub struct OrderTree {
+pub struct OrderTree<A = Global> {
     tree: Tree,
     /// Nodes that stand for no key, as many as are spare or more.
-    nodes: Vec<Box<Node>>,
+    nodes: BoundedList<Box<Node>>,
     /// How many keys there are.
     count: u32,
     /// How many more there may be.
     spare: u32,
     /// The entry of the least key, which is asked for more often than it changes.
     first: Option<(Key, Pid)>,
-    alloc: Global,
+    alloc: A,
 }
 
-impl Model for OrderTree {
+/// What stands in the place of the allocator in a tree or a queue that takes no more memory.
+#[derive(Drop)]
+pub struct Closed;
+
+impl<A> Model for OrderTree<A> {
     ghost use Rattle.order_tree.specs.Order.{Ordered};
     ghost use Rattle.order_tree.specs.Branch.{ordered_code};
 
@@ -59,7 +67,7 @@ impl OrderTree {
     {
         OrderTree {
             tree: Tree::empty(),
-            nodes: Vec::new(alloc),
+            nodes: BoundedList::with_room(alloc, 0).unwrap(),
             count: 0,
             spare: 0,
             first: None,
@@ -80,13 +88,27 @@ impl OrderTree {
         let Some(places) = self.count.checked_add(n) else {
             return Err(OutOfMemory);
         };
-        let more = (places as usize).saturating_sub(self.nodes.len());
-        self.nodes.reserve(more)?;
-        fill(&mut self.nodes, n as usize, self.alloc)?;
+        self.nodes = blank_nodes(self.alloc, n as usize, places as usize)?;
         self.spare = n;
         Ok(())
     }
 
+    /// The same tree, without its allocator: no call of it takes memory any more.
+    pub fn close(self) -> OrderTree<Closed>
+        ensures { result ≡ self }
+    {
+        OrderTree {
+            tree: self.tree,
+            nodes: self.nodes,
+            count: self.count,
+            spare: self.spare,
+            first: self.first,
+            alloc: Closed,
+        }
+    }
+}
+
+impl<A> OrderTree<A> {
     /// Puts a pid at a key where none is.
     #[inline(always)]
     pub fn insert<L: Ledger>(&mut self, key: Key, pid: Pid, steps: &mut Steps<L>)
@@ -117,7 +139,7 @@ impl OrderTree {
             return false;
         };
         renew(&mut self.first, node.pid(), &self.tree);
-        self.nodes.push(node).unwrap();
+        self.nodes.push(node);
         self.count -= 1;
         self.spare += 1;
         true
@@ -317,16 +339,19 @@ fn lend(node: Option<&Node>) -> Option<(&Key, Pid)>
     Some(node.lend())
 }
 
-/// Adds nodes until there are `n`. There are places for as many.
-fn fill(nodes: &mut Vec<Box<Node>>, n: usize, alloc: Global) -> Result<(), OutOfMemory>
-    requires places { n ≤ vec_capacity nodes.old }
-    ensures enough { OnOk result (n ≤ length nodes.new.items) }
-    ensures no_fewer { length nodes.old.items ≤ length nodes.new.items }
-    ensures no_more { length nodes.new.items ≤ max n (length nodes.old.items) }
-    ensures capacity { vec_capacity nodes.old ≤ vec_capacity nodes.new }
+/// So many nodes that stand for no key, in a list that has room for `places`. Here alone nodes are made.
+fn blank_nodes(
+    alloc: Global,
+    count: usize,
+    places: usize,
+) -> Result<BoundedList<Box<Node>>, OutOfMemory>
+    requires fits { count ≤ places }
+    ensures count { IfOk result (λ nodes. length nodes.items ≡ count) }
+    ensures places { IfOk result (λ nodes. nodes.room ≡ places) }
 {
-    while nodes.len() < n {
-        nodes.push(Box::new(alloc, Node::blank())?).unwrap();
+    let mut nodes = BoundedList::with_room(alloc, places)?;
+    while nodes.len() < count {
+        nodes.push(Box::new(alloc, Node::blank())?);
     }
-    Ok(())
+    Ok(nodes)
 }

@@ -1,15 +1,16 @@
 //! The queue of a scheduling class: an ordered tree in which all keys are of one group and one class. It is
 //! apart since the classes keep their tasks alike.
 
-ghost use Rattle.std.specs.Prelude.{◌≡◌, ◌+◌, ◌≤◌, ◌++◌, length, map, None, IsTrue, IsPermutation};
+ghost use Rattle.std.specs.Prelude.{◌≡◌, ◌+◌, ◌<◌, ◌≤◌, ◌++◌, length, map, if◌then◌else◌, None, IsTrue, IsPermutation};
 ghost use Rattle.std.specs.FinMap.{empty, entries, len, get, contains_key, insert, remove, is_sorted};
 ghost use Rattle.cs_types.specs.Comparisons.{most_comparisons};
 ghost use Rattle.order_tree.specs.Rank.{key_at, least_rank, stamped};
-ghost use Rattle.cs_types.specs.Queue.{key_cmp};
+ghost use Rattle.cs_types.specs.Queue.{key_cmp, top_of};
 ghost use Rattle.order_tree.specs.Anew.{reranked};
 
 use crate::key::Key;
 use crate::movers::Movers;
+use crate::order::Closed;
 use crate::recent::RecentTree;
 use crate::renewal::Renewal;
 use cs_types::{ClassQueue, OutOfMemory, Pid, Steps};
@@ -18,12 +19,14 @@ use std::marker::Model;
 use std::sync::ledger::Ledger;
 
 /// The tasks of a scheduling class on one sibling, by rising rank and then by rising stamp.
+///
+/// The parameter is what it takes memory from, until it is closed.
 #[derive(Drop)]
-pub struct RankTree {
-    tree: RecentTree,
+pub struct RankTree<A = Global> {
+    tree: RecentTree<A>,
 }
 
-impl Model for RankTree {
+impl<A> Model for RankTree<A> {
     ghost use Rattle.cs_types.specs.Queue.{Ranked};
     ghost use Rattle.cs_types.proofs.Codes.{ranked_code};
 
@@ -47,6 +50,58 @@ impl RankTree {
         RankTree {
             tree: RecentTree::empty(alloc),
         }
+    }
+
+    /// The same queue, without its allocator: no call of it takes memory any more.
+    pub fn close(self) -> RankTree<Closed>
+        ensures { result ≡ self }
+    {
+        RankTree {
+            tree: self.tree.close(),
+        }
+    }
+}
+
+impl<A> RankTree<A> {
+    /// Puts a task at a key where none is.
+    #[inline(always)]
+    pub fn put<L: Ledger>(&mut self, rank: u128, stamp: u64, pid: Pid, steps: &mut Steps<L>)
+        requires spare { 0 < self.old.spare }
+        requires free { get self.old.members (rank, stamp) ≡ None }
+        ensures members { self.new.members ≡ insert self.old.members (rank, stamp) pid }
+        ensures spare { self.new.spare + 1 ≡ self.old.spare }
+        ensures counted { steps.new ≤ steps.old + most_comparisons (len self.old.members) }
+    {
+        self.tree.insert(key(rank, stamp), pid, steps);
+    }
+
+    /// Takes the task at a key out. `false` comes exactly where none is there, and then nothing
+    /// changes.
+    pub fn take<L: Ledger>(&mut self, rank: u128, stamp: u64, steps: &mut Steps<L>) -> bool
+        ensures found { result ≡ contains_key self.old.members (rank, stamp) }
+        ensures members { self.new.members ≡ remove self.old.members (rank, stamp) }
+        ensures spare { self.new.spare ≡ self.old.spare + (if result then 1 else 0) }
+        ensures counted { steps.new ≤ steps.old + most_comparisons (len self.old.members) }
+    {
+        self.tree.remove(&key(rank, stamp), steps)
+    }
+
+    /// The task with the least rank, and among those with the least stamp. `None` exactly where there
+    /// is no task.
+    #[inline(always)]
+    pub fn top<L: Ledger>(&self, steps: &mut Steps<L>) -> Option<Pid>
+        ensures top { result ≡ top_of self.now.members }
+        ensures counted { steps.new ≤ steps.old + most_comparisons (len self.now.members) }
+    {
+        let first = self.tree.first(steps)?;
+        Some(first.1)
+    }
+
+    /// How many tasks there are.
+    pub fn len(&self) -> u32
+        ensures { result ≡ len self.now.members }
+    {
+        self.tree.len()
     }
 
     /// Every task leaves.
@@ -116,21 +171,20 @@ impl ClassQueue for RankTree {
 
     #[inline(always)]
     fn put<L: Ledger>(&mut self, rank: u128, stamp: u64, pid: Pid, steps: &mut Steps<L>) {
-        self.tree.insert(key(rank, stamp), pid, steps);
+        RankTree::put(self, rank, stamp, pid, steps);
     }
 
     fn take<L: Ledger>(&mut self, rank: u128, stamp: u64, steps: &mut Steps<L>) -> bool {
-        self.tree.remove(&key(rank, stamp), steps)
+        RankTree::take(self, rank, stamp, steps)
     }
 
     #[inline(always)]
     fn top<L: Ledger>(&self, steps: &mut Steps<L>) -> Option<Pid> {
-        let first = self.tree.first(steps)?;
-        Some(first.1)
+        RankTree::top(self, steps)
     }
 
     fn len(&self) -> u32 {
-        self.tree.len()
+        RankTree::len(self)
     }
 }
 

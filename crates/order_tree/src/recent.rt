@@ -13,7 +13,7 @@ ghost use Rattle.order_tree.specs.Recent.{lent, reaching, is_at, is_past};
 
 use crate::key::Key;
 use crate::movers::Movers;
-use crate::order::{OrderTree, lesser, lesser_lent};
+use crate::order::{Closed, OrderTree, lesser, lesser_lent};
 use crate::renewal::Renewal;
 use crate::tree::reaches;
 use cs_types::{OutOfMemory, Pid, Steps};
@@ -24,14 +24,16 @@ use std::sync::ledger::Ledger;
 /// Pids at keys, in rising order of the keys. To put a pid and then to take it out again changes no tree, so
 /// that the key of a running task can change often. A call that looks for a key counts each comparison of two
 /// keys, and among n keys makes at most twice the number of binary digits of n, and two more.
+///
+/// The parameter is that of the tree.
 #[derive(Drop)]
-pub struct RecentTree {
-    tree: OrderTree,
+pub struct RecentTree<A = Global> {
+    tree: OrderTree<A>,
     /// What was put last, where it was not taken out since, or what others were put behind since.
     recent: Option<(Key, Pid)>,
 }
 
-impl Model for RecentTree {
+impl<A> Model for RecentTree<A> {
     ghost use Rattle.order_tree.specs.Order.{Ordered};
     ghost use Rattle.order_tree.specs.Branch.{ordered_code};
 
@@ -71,6 +73,18 @@ impl RecentTree {
         self.tree.reserve(most)
     }
 
+    /// The same tree, without its allocator: no call of it takes memory any more.
+    pub fn close(self) -> RecentTree<Closed>
+        ensures { result ≡ self }
+    {
+        RecentTree {
+            tree: self.tree.close(),
+            recent: self.recent,
+        }
+    }
+}
+
+impl<A> RecentTree<A> {
     /// Puts a pid at a key where none is. Where it is put behind the one beside the tree, it goes into the tree: the other
     /// is the one that is likely to run, and then its key changes next.
     #[inline(always)]

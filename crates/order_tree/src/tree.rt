@@ -1,6 +1,6 @@
 //! The tree: its nodes, and the walks that look for a key. How it keeps in balance stands in `balance`.
 
-ghost use Rattle.std.specs.Prelude.{◌≡◌, ◌≢◌, ◌+◌, ◌*◌, ◌≤◌, true, [], ◌++◌, length, ◌↔◌, IsTrue, None, Some, MatchOption, if◌then◌else◌, slice_get, vec_capacity, map};
+ghost use Rattle.std.specs.Prelude.{◌≡◌, ◌≢◌, ◌+◌, ◌*◌, ◌≤◌, true, [], ◌++◌, length, ◌↔◌, IsTrue, None, Some, MatchOption, if◌then◌else◌, slice_get, map};
 ghost use Rattle.std.specs.List as list;
 ghost use Rattle.std.specs.Option.{option_map, option_or};
 ghost use Rattle.std.specs.FinMap.{find, put, is_sorted};
@@ -16,6 +16,7 @@ use crate::key::Key;
 use crate::movers::Movers;
 use crate::renewal::Renewal;
 use balance::{hand_out, lean_left, lean_right, plant, uproot};
+use bounded_list::BoundedList;
 use cs_types::{Pid, Steps};
 use std::cmp::Ordering;
 use std::marker::Model;
@@ -317,16 +318,16 @@ impl Tree {
     }
 
     /// Gives its nodes to the list, which has places for them. It compares no key.
-    pub fn give(self, nodes: &mut Vec<Box<Node>>)
-        requires places { length nodes.old.items + length self.entries ≤ vec_capacity nodes.old }
+    pub fn give(self, nodes: &mut BoundedList<Box<Node>>)
+        requires places { length nodes.old.items + length self.entries ≤ nodes.old.room }
         ensures nodes { length nodes.new.items ≡ length nodes.old.items + length self.entries }
-        ensures places { vec_capacity nodes.old ≤ vec_capacity nodes.new }
+        ensures places { nodes.new.room ≡ nodes.old.room }
     {
         let Some(parts) = self.open() else {
             return;
         };
         parts.left.give(nodes);
-        nodes.push_reserved(parts.node);
+        nodes.push(parts.node);
         parts.right.give(nodes);
     }
 

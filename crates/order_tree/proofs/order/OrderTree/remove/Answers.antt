@@ -81,9 +81,8 @@ invariant_of-self-2 g c =
     let found = sym c.remove.ensures.taken ∙ ap pid_in c.in-Some.is in
     let pid : c.pid.result ≡ c.in-Some.node.value.pid = c.pid.ensures ∙ ap (λ (n : Node). n.pid) c.deref.ensures in
     let count = one-out es sound.rising c.args.key.now c.remove.new.self.entries c.remove.new.taken c.in-Some.is cut.entries c.remove.ensures.taken in
-    let items = rw c.unwrap.ensures at c.push.ensures.items in
-    let nodes = ap length items ∙ length_push c.self.inside.nodes.items c.in-Some.node in
-    let capacity = c.push.ensures.capacity in record {
+    let nodes = ap length c.push.ensures.items ∙ length_push c.self.inside.nodes.items c.in-Some.node in
+    let room = c.push.ensures.room in record {
       rising = cut.rising;
       counted = omega arith;
       first =
@@ -122,11 +121,11 @@ returns-in_default-clause-spare g c = no_more _ _ (ap (λ (o : Ordered). o.spare
 pub returns-clause-spare : goal.returns-clause-spare
 returns-clause-spare g c = ap (λ (o : Ordered). o.spare + 1) c.self.view_is
 
-pub unwrap-requires : goal.unwrap-requires
-unwrap-requires g c =
+pub push-requires : goal.push-requires
+push-requires g c =
     let sound = c.self.invariant in
     let count = one-out c.self.inside.tree.entries sound.rising c.args.key.now _ c.remove.new.taken c.in-Some.is c.remove.ensures.entries c.remove.ensures.taken in
-    c.push.ensures.succeeds (omega (arith, count, sound.counted, sound.places))
+    record { room = omega (arith, count, sound.counted, sound.places) }
 
 pub overflow_sub-self : goal.overflow_sub-self
 overflow_sub-self g c =

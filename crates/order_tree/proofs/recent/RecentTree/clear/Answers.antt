@@ -3,4 +3,4 @@ use Rattle.order_tree.proofs.Recents.{spare-recent}
 use Rattle.order_tree.proofs.recent.RecentTree.clear.Goals as goal
 
 pub returns-clause-spare : goal.returns-clause-spare
-returns-clause-spare c = rw (← c.self.view_is) (omega (arith, c.clear.ensures.spare, spare-recent c.self.inside.recent c.self.inside.tree c.self.invariant))
+returns-clause-spare g c = rw (← c.self.view_is) (omega (arith, c.clear.ensures.spare, spare-recent c.self.inside.recent c.self.inside.tree c.self.invariant))

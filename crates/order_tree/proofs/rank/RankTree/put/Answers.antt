@@ -1,7 +1,7 @@
 use Rattle.std.proofs.Common.{ap, sym, ◌∙◌}
 use Rattle.std.specs.FinMap as fin
 use Rattle.order_tree.proofs.Ranks.{get-ranked, len-ranked, IsOfClass-insert, ranked-insert}
-use Rattle.order_tree.proofs.rank.RankTreeClassQueue.put.Goals as goal
+use Rattle.order_tree.proofs.rank.RankTree.put.Goals as goal
 
 pub insert-requires-clause-free : goal.insert-requires-clause-free
 insert-requires-clause-free g c =

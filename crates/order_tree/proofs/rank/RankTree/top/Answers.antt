@@ -2,7 +2,7 @@ use Rattle.std.proofs.Common.{sym, ap, ◌∙◌}
 use Rattle.std.specs.Option.{option_map}
 use Rattle.order_tree.specs.Order.{Entry}
 use Rattle.order_tree.proofs.Ranks.{top_of-ranked}
-use Rattle.order_tree.proofs.rank.RankTreeClassQueue.top.Goals as goal
+use Rattle.order_tree.proofs.rank.RankTree.top.Goals as goal
 
 pub returns-in_err-first-clause-top : goal.returns-in_err-first-clause-top
 returns-in_err-first-clause-top g c =

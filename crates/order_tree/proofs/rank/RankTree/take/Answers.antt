@@ -2,7 +2,7 @@ use Rattle.std.proofs.Common.{ap, sym, ◌∙◌}
 use Rattle.std.specs.Prelude.{is_some}
 use Rattle.std.specs.FinMap as fin
 use Rattle.order_tree.proofs.Ranks.{get-ranked, len-ranked, IsOfClass-remove, ranked-remove}
-use Rattle.order_tree.proofs.rank.RankTreeClassQueue.take.Goals as goal
+use Rattle.order_tree.proofs.rank.RankTree.take.Goals as goal
 
 pub invariant_of-self : goal.invariant_of-self
 invariant_of-self g c =
