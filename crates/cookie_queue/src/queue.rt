@@ -13,19 +13,21 @@ ghost use Rattle.cookie_queue.specs.Spotted.{spotted};
 ghost use Rattle.cookie_queue.specs.Inside.{key_at, with_cookie};
 
 use cs_types::{Cookie, OutOfMemory, Pid, Queued, Steps};
-use order_tree::{Key, RecentTree, Renewal};
+use order_tree::{Closed, Key, RecentTree, Renewal};
 use std::alloc::Global;
 use std::marker::Model;
 use std::sync::ledger::Ledger;
 
 /// The queued tasks of one sibling that have a cookie. A call that looks for a task counts its
 /// comparisons, and among n tasks makes at most twice the number of binary digits of n, and two more.
+///
+/// The parameter is what it takes memory from, until it is closed.
 #[derive(Drop)]
-pub struct CookieQueue {
-    tree: RecentTree,
+pub struct CookieQueue<A = Global> {
+    tree: RecentTree<A>,
 }
 
-impl Model for CookieQueue {
+impl<A> Model for CookieQueue<A> {
     ghost use Rattle.cs_types.specs.Queue.{Spotted};
     ghost use Rattle.cs_types.proofs.Codes.{spotted_code};
 
@@ -59,6 +61,17 @@ impl CookieQueue {
         self.tree.reserve(n)
     }
 
+    /// The same queue, without its allocator: no call of it takes memory any more.
+    pub fn close(self) -> CookieQueue<Closed>
+        ensures { result ≡ self }
+    {
+        CookieQueue {
+            tree: self.tree.close(),
+        }
+    }
+}
+
+impl<A> CookieQueue<A> {
     /// Puts a task, which has a cookie, where none has its cookie, class, rank and stamp
     /// (`sched_core_enqueue`).
     #[inline(always)]

@@ -5,9 +5,10 @@ ghost use Rattle.cs_types.specs.declared.task.Policy.TheVariants.{Fair};
 ghost use Rattle.cs_types.specs.Queue.{rank_by};
 
 use order_tree::RankTree;
+use std::alloc::Global;
 
-/// The fair tasks of one sibling.
-pub type FairQueue = RankTree;
+/// The fair tasks of one sibling. The parameter is what the queue takes memory from, until it is closed.
+pub type FairQueue<A = Global> = RankTree<A>;
 
 /// The rank of a fair task: its virtual time, in ns. The smaller one goes first, and of equal ones the
 /// earlier enqueue.

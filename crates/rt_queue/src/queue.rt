@@ -5,9 +5,10 @@ ghost use Rattle.cs_types.specs.declared.task.Policy.TheVariants.{Fifo, Rr};
 ghost use Rattle.cs_types.specs.Queue.{rank_by};
 
 use order_tree::RankTree;
+use std::alloc::Global;
 
-/// The real-time tasks of one sibling.
-pub type RtQueue = RankTree;
+/// The real-time tasks of one sibling. The parameter is what the queue takes memory from, until it is closed.
+pub type RtQueue<A = Global> = RankTree<A>;
 
 /// The rank of a real-time task of this priority, 1 to 99: 98 to 0. The greater priority goes first, and
 /// of equal ones the earlier enqueue.

@@ -3,8 +3,8 @@ use Rattle.cookie_queue.proofs.Cookies.{no_tasks, len-tasks_of}
 use Rattle.cookie_queue.proofs.queue.CookieQueue.clear.Goals as goal
 
 pub returns-clause-tasks : goal.returns-clause-tasks
-returns-clause-tasks c = no_tasks c.clear.new.self.members c.clear.ensures.members
+returns-clause-tasks g c = no_tasks c.clear.new.self.members c.clear.ensures.members
 
 pub returns-clause-spare : goal.returns-clause-spare
-returns-clause-spare c =
+returns-clause-spare g c =
     rw (← c.self.view_is) (c.clear.ensures.spare ∙ ap (λ n. c.self.inside.tree.spare + n) (sym (len-tasks_of c.self.inside.tree.members)))
