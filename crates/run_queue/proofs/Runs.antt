@@ -13,27 +13,27 @@ use Rattle.run_queue.proofs.Seats.{len-joined, get-joined, SetsTo, insert-SetsTo
 
 -- ---- the queue of a class
 
-abbrev pub ranked_in : Inside → ℕ → Ranked
+abbrev pub ranked_in : {A : Type 0} → Inside A → ℕ → Ranked
 ranked_in run zero = run.stop
 ranked_in run (suc zero) = run.deadline
 ranked_in run (suc (suc zero)) = run.real_time
 ranked_in run (suc (suc (suc class))) = run.fair
 
 -- a run queue with this for it
-abbrev pub with_ranked : Inside → ℕ → Ranked → Inside
+abbrev pub with_ranked : {A : Type 0} → Inside A → ℕ → Ranked → Inside A
 with_ranked run zero ranked = record run { stop = ranked }
 with_ranked run (suc zero) ranked = record run { deadline = ranked }
 with_ranked run (suc (suc zero)) ranked = record run { real_time = ranked }
 with_ranked run (suc (suc (suc class))) ranked = record run { fair = ranked }
 
-holds_in : (run : Inside) → IsSound run → (class : ℕ) → Holds run.limit (ranked_in run class)
+holds_in : {A : Type 0} (run : Inside A) → IsSound run → (class : ℕ) → Holds run.limit (ranked_in run class)
 holds_in run sound zero = sound.stop
 holds_in run sound (suc zero) = sound.deadline
 holds_in run sound (suc (suc zero)) = sound.real_time
 holds_in run sound (suc (suc (suc class))) = sound.fair
 
 -- the pid at a key of a class is that at the seat
-pub get-ranked_in : (run : Inside) (class : ℕ) → class ≤ 3 → (key : Key) →
+pub get-ranked_in : {A : Type 0} (run : Inside A) (class : ℕ) → class ≤ 3 → (key : Key) →
     get (seated_of run).tasks (class, key) ≡ get (ranked_in run class).members key
 get-ranked_in run zero low key = get-joined run.stop.members run.deadline.members run.real_time.members run.fair.members (0, key)
 get-ranked_in run (suc zero) low key = get-joined run.stop.members run.deadline.members run.real_time.members run.fair.members (1, key)
@@ -42,7 +42,7 @@ get-ranked_in run (suc (suc (suc zero))) low key = get-joined run.stop.members r
 get-ranked_in run (suc (suc (suc (suc class)))) low key = absurd (omega arith)
 
 -- a class has no more tasks than there are, and so no higher bound on comparisons
-pub most_comparisons-ranked_in : (run : Inside) (class : ℕ) → most_comparisons (len (ranked_in run class).members) ≤ most_comparisons (len (seated_of run).tasks)
+pub most_comparisons-ranked_in : {A : Type 0} (run : Inside A) (class : ℕ) → most_comparisons (len (ranked_in run class).members) ≤ most_comparisons (len (seated_of run).tasks)
 most_comparisons-ranked_in run class = most_comparisons-le _ _ (by_class class) where
   by_class : (class : ℕ) → len (ranked_in run class).members ≤ len (seated_of run).tasks
   by_class zero = let all = len-joined run.stop.members run.deadline.members run.real_time.members run.fair.members in omega arith
@@ -59,12 +59,12 @@ record IsEdit (limit : ℕ) (before after : Ranked) (key : Key) (value : Option 
   sets : SetsTo before.members after.members key value
 
 -- the same of a run queue, with the places for it
-record Edits (before after : Inside) (seat : Seat) (value : Option ℕ) (more fewer : ℕ) : Type 0 where
+record Edits {A : Type 0} (before after : Inside A) (seat : Seat) (value : Option ℕ) (more fewer : ℕ) : Type 0 where
   sound : IsSound after
   sets : SetsTo (seated_of before).tasks (seated_of after).tasks seat value
   spare : (seated_of after).spare + more ≡ (seated_of before).spare + fewer
 
-Edits-from : (run : Inside) → IsSound run → (class : ℕ) → class ≤ 3 → (after : Ranked) (key : Key) (value : Option ℕ) (more fewer : ℕ) →
+Edits-from : {A : Type 0} (run : Inside A) → IsSound run → (class : ℕ) → class ≤ 3 → (after : Ranked) (key : Key) (value : Option ℕ) (more fewer : ℕ) →
     count run + more ≤ run.limit + fewer → IsEdit run.limit (ranked_in run class) after key value more fewer →
     Edits run (with_ranked run class after) (class, key) value more fewer
 Edits-from run sound zero low after key value more fewer fits one = record {
@@ -92,12 +92,12 @@ Edits-from run sound (suc (suc (suc (suc class)))) low after key value more fewe
 -- ---- a task more
 
 -- a run queue with one task more at a seat
-pub record Enters (before after : Inside) (seat : Seat) (pid : ℕ) : Type 0 where
+pub record Enters {A : Type 0} (before after : Inside A) (seat : Seat) (pid : ℕ) : Type 0 where
   pub sound : IsSound after
   pub tasks : (seated_of after).tasks ≡ fin.insert (seated_of before).tasks seat pid
   pub spare : (seated_of after).spare + 1 ≡ (seated_of before).spare
 
-pub entered : (run : Inside) → IsSound run → (class : ℕ) → class ≤ 3 → (key : Key) (pid : ℕ) →
+pub entered : {A : Type 0} (run : Inside A) → IsSound run → (class : ℕ) → class ≤ 3 → (key : Key) (pid : ℕ) →
     0 < (seated_of run).spare → get (seated_of run).tasks (class, key) ≡ None →
     (after : Ranked) → after.members ≡ fin.insert (ranked_in run class).members key pid → after.spare + 1 ≡ (ranked_in run class).spare →
     Enters run (with_ranked run class after) (class, key) pid
@@ -133,13 +133,13 @@ shorter before after key true is_there is = let some = has_some before key (sym 
 shorter before after key false is_absent is = let now = rw (← is_absent) at is in omega arith
 
 -- a run queue without what was at a seat
-pub record Leaves (before after : Inside) (seat : Seat) (is_found : Bool) : Type 0 where
+pub record Leaves {A : Type 0} (before after : Inside A) (seat : Seat) (is_found : Bool) : Type 0 where
   pub sound : IsSound after
   pub found : is_found ≡ contains_key (seated_of before).tasks seat
   pub tasks : (seated_of after).tasks ≡ fin.remove (seated_of before).tasks seat
   pub spare : (seated_of after).spare ≡ (seated_of before).spare + cond is_found 1 0
 
-pub left : (run : Inside) → IsSound run → (class : ℕ) → class ≤ 3 → (key : Key) (found : Bool) (after : Ranked) →
+pub left : {A : Type 0} (run : Inside A) → IsSound run → (class : ℕ) → class ≤ 3 → (key : Key) (found : Bool) (after : Ranked) →
     found ≡ contains_key (ranked_in run class).members key → after.members ≡ fin.remove (ranked_in run class).members key →
     after.spare ≡ (ranked_in run class).spare + cond found 1 0 →
     Leaves run (with_ranked run class after) (class, key) found
@@ -162,12 +162,12 @@ left run sound class low key found after says is spare =
 -- ---- a fair task that has another rank
 
 -- a run queue in which what was at a seat is at another
-pub record Moves (before after : Inside) (seat place : Seat) (pid : ℕ) : Type 0 where
+pub record Moves {A : Type 0} (before after : Inside A) (seat place : Seat) (pid : ℕ) : Type 0 where
   pub sound : IsSound after
   pub tasks : (seated_of after).tasks ≡ fin.insert (fin.remove (seated_of before).tasks seat) place pid
   pub spare : (seated_of after).spare ≡ (seated_of before).spare
 
-module _ (run : Inside) (sound : IsSound run) (key place : Key) (there : contains_key (seated_of run).tasks (3, key) ≡ true) where
+module _ {A : Type 0} (run : Inside A) (sound : IsSound run) (key place : Key) (there : contains_key (seated_of run).tasks (3, key) ≡ true) where
   -- while it is out
   abbrev mid : Ranked
   mid = record { members = fin.remove run.fair.members key; spare = run.fair.spare + 1 }

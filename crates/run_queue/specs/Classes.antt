@@ -17,11 +17,11 @@ abbrev pub joined : Members → Members → Members → Members → List (Seat �
 joined stop deadline real_time fair = seats_in 0 stop ++ (seats_in 1 deadline ++ (seats_in 2 real_time ++ (seats_in 3 fair ++ [])))
 
 -- how many there are
-abbrev pub count : Inside → ℕ
+abbrev pub count : {A : Type 0} → Inside A → ℕ
 count queue = len queue.stop.members + len queue.deadline.members + len queue.real_time.members + len queue.fair.members
 
 -- what contracts see of it
-abbrev pub seated_of : Inside → Seated
+abbrev pub seated_of : {A : Type 0} → Inside A → Seated
 seated_of queue =
     record {
       tasks = from_sorted (joined queue.stop.members queue.deadline.members queue.real_time.members queue.fair.members);
@@ -33,7 +33,7 @@ abbrev pub Holds : ℕ → Ranked → Type 0
 Holds limit queue = limit ≤ len queue.members + queue.spare
 
 -- There are as many tasks as the limit at most, each of which every class can take.
-pub record IsSound (queue : Inside) : Type 0 where
+pub record IsSound {A : Type 0} (queue : Inside A) : Type 0 where
   pub few : count queue ≤ queue.limit
   pub limit_fits : queue.limit < 2 ^ 32
   pub stop : Holds queue.limit queue.stop

@@ -6,7 +6,7 @@ use Rattle.cs_types.specs.Queue.{RunQueued, Seats, Spot, Spots, spot_of}
 use Rattle.run_queue.specs.declared.queue.RunQueue.TheInside.{Inside}
 
 -- what contracts see of it
-abbrev pub run_of : Inside → RunQueued
+abbrev pub run_of : {A : Type 0} → Inside A → RunQueued
 run_of run = record { tasks = run.classes.tasks; cookies = run.cookies.tasks; spare = run.classes.spare }
 
 -- the tasks with cookies but for this one, which stands among them where it has a cookie (`sched_core_dequeue`)
@@ -24,6 +24,6 @@ pub record IsTied (tasks : Seats) (cookies : Spots) : Type 0 where
   pub one : (spot other : Spot) → IsTrue (contains_key cookies spot) → IsTrue (contains_key cookies other) → spot.1 ≡ other.1 → spot.0 ≡ other.0
 
 -- There is a place for the cookie of each task that there may be.
-pub record IsSound (run : Inside) : Type 0 where
+pub record IsSound {A : Type 0} (run : Inside A) : Type 0 where
   pub fits : run.classes.spare + len run.classes.tasks ≤ run.cookies.spare + len run.cookies.tasks
   pub tied : IsTied run.classes.tasks run.cookies.tasks

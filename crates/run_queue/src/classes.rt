@@ -16,24 +16,26 @@ ghost use Rattle.run_queue.specs.Classes.{stamped};
 use cs_types::{ClassQueue, OutOfMemory, Pid, Queued, Steps};
 use deadline_queue::DeadlineQueue;
 use fair_queue::FairQueue;
-use order_tree::{Movers, RankTree, Renewal};
+use order_tree::{Closed, Movers, RankTree, Renewal};
 use rt_queue::RtQueue;
 use std::alloc::Global;
 use std::marker::Model;
 use std::sync::ledger::Ledger;
 
 /// The queued tasks of one sibling, by class, in a class by rank, and at equal ranks by stamp.
+///
+/// The parameter is what they take memory from, until they are closed.
 #[derive(Drop)]
-pub struct Classes {
-    stop: RankTree,
-    deadline: DeadlineQueue,
-    real_time: RtQueue,
-    fair: FairQueue,
+pub struct Classes<A = Global> {
+    stop: RankTree<A>,
+    deadline: DeadlineQueue<A>,
+    real_time: RtQueue<A>,
+    fair: FairQueue<A>,
     /// How many tasks it can take in all, whatever their classes are.
     limit: u32,
 }
 
-impl Model for Classes {
+impl<A> Model for Classes<A> {
     ghost use Rattle.cs_types.specs.Queue.{Seated};
     ghost use Rattle.cs_types.proofs.Codes.{seated_code};
 
@@ -81,6 +83,21 @@ impl Classes {
         Ok(())
     }
 
+    /// The same queues, without their allocator: no call of them takes memory any more.
+    pub fn close(self) -> Classes<Closed>
+        ensures { result ≡ self }
+    {
+        Classes {
+            stop: self.stop.close(),
+            deadline: self.deadline.close(),
+            real_time: self.real_time.close(),
+            fair: self.fair.close(),
+            limit: self.limit,
+        }
+    }
+}
+
+impl<A> Classes<A> {
     /// Puts a task at a seat where none is.
     pub fn enqueue<L: Ledger>(&mut self, task: Queued, steps: &mut Steps<L>)
         requires spare { 0 < self.old.spare }

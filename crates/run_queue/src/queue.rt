@@ -18,7 +18,7 @@ ghost use Rattle.run_queue.specs.Classes.{stamped};
 use crate::classes::Classes;
 use cookie_queue::CookieQueue;
 use cs_types::{Cookie, OutOfMemory, Pid, Queued, Steps};
-use order_tree::{Movers, Renewal};
+use order_tree::{Closed, Movers, Renewal};
 use std::alloc::Global;
 use std::marker::Model;
 use std::sync::ledger::Ledger;
@@ -28,13 +28,15 @@ use std::sync::ledger::Ledger;
 ///
 /// With n tasks a call of the ordered tree makes at most twice the number of binary digits of n
 /// comparisons, and two more. The calls here make a small multiple of that.
+///
+/// The parameter is what it takes memory from. Once it is `Closed` there is no call that could take any.
 #[derive(Drop)]
-pub struct RunQueue {
-    classes: Classes,
-    cookies: CookieQueue,
+pub struct RunQueue<A = Global> {
+    classes: Classes<A>,
+    cookies: CookieQueue<A>,
 }
 
-impl Model for RunQueue {
+impl<A> Model for RunQueue<A> {
     ghost use Rattle.cs_types.specs.Queue.{RunQueued};
     ghost use Rattle.cs_types.proofs.Codes.{run_queued_code};
 
@@ -77,6 +79,18 @@ impl RunQueue {
         self.classes.reserve(n)
     }
 
+    /// The same queue, without its allocator: no call of it takes memory any more.
+    pub fn close(self) -> RunQueue<Closed>
+        ensures { result ≡ self }
+    {
+        RunQueue {
+            classes: self.classes.close(),
+            cookies: self.cookies.close(),
+        }
+    }
+}
+
+impl<A> RunQueue<A> {
     /// Puts a task at a seat where none is.
     pub fn enqueue<L: Ledger>(&mut self, task: Queued, steps: &mut Steps<L>)
         requires spare { 0 < self.old.spare }

@@ -8,7 +8,7 @@ none : (members : Members) → members ≡ empty → len members ≡ 0
 none members is = ap len is ∙ len-empty key_cmp ℕ
 
 pub invariant_of-self : goal.invariant_of-self
-invariant_of-self c =
+invariant_of-self g c =
     let sound = c.self.invariant in
     let stop = none c.clear.new.self.members c.clear.ensures.members in
     let deadline = none c.clear-2.new.self.members c.clear-2.ensures.members in
@@ -23,7 +23,7 @@ invariant_of-self c =
     }
 
 pub returns-clause-tasks : goal.returns-clause-tasks
-returns-clause-tasks c =
+returns-clause-tasks g c =
     let all = len-joined c.clear.new.self.members c.clear-2.new.self.members c.clear-3.new.self.members c.clear-4.new.self.members in
     let stop = none c.clear.new.self.members c.clear.ensures.members in
     let deadline = none c.clear-2.new.self.members c.clear-2.ensures.members in
@@ -32,7 +32,7 @@ returns-clause-tasks c =
     empty_of_len _ (omega arith)
 
 pub returns-clause-spare : goal.returns-clause-spare
-returns-clause-spare c =
+returns-clause-spare g c =
     let sound = c.self.invariant in
     let all = len-joined c.self.inside.stop.members c.self.inside.deadline.members c.self.inside.real_time.members c.self.inside.fair.members in
     let stop = none c.clear.new.self.members c.clear.ensures.members in

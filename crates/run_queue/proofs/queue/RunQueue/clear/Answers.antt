@@ -5,7 +5,7 @@ use Rattle.run_queue.proofs.Ties.{IsTied-empty}
 use Rattle.run_queue.proofs.queue.RunQueue.clear.Goals as goal
 
 pub invariant_of-self : goal.invariant_of-self
-invariant_of-self c =
+invariant_of-self g c =
     let fits = c.self.invariant.fits in
     let tasks = ap len c.clear.ensures.tasks ∙ len-empty seat_cmp ℕ in
     let cookies = ap len c.clear-2.ensures.tasks ∙ len-empty spot_cmp ℕ in
