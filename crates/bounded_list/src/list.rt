@@ -1,7 +1,7 @@
 //! The list and its methods. It is apart, since no other file reads how the items are kept.
 
 ghost use Rattle.std.specs.Prelude.{◌≡◌, ◌+◌, ◌-◌, ◌<◌, ◌≤◌, ◌==◌, ◌↔◌, [], ◌∷◌, ◌++◌, length, take, replicate, insert, remove, Some, IsOk, IsSome, IfOk, IfSome, IfNone, slice_get, slice_index_or};
-ghost use Rattle.std.specs.List.{IsItemAtMut, swap_remove};
+ghost use Rattle.std.specs.List.{IsItemAtMut};
 ghost use Rattle.std.specs.List.Retain.{IsFiltered};
 ghost use Rattle.std.specs.Fn.{CalledAt};
 ghost use Rattle.std.specs.Option.{option_to_list};
@@ -159,28 +159,9 @@ impl<T> BoundedList<T> {
     {
         self.items.remove(index)
     }
-
-    /// Takes out the item at the index. The last one gets its place.
-    #[inline(always)]
-    pub fn swap_remove(&mut self, index: usize) -> T
-        requires { index < length self.old.items }
-        ensures value { result ≡ slice_index_or self.old.items index result }
-        ensures items { self.new.items ≡ swap_remove self.old.items index result }
-        ensures room { self.new.room ≡ self.old.room }
-    {
-        self.items.swap_remove(index)
-    }
 }
 
 impl<T: Drop> BoundedList<T> {
-    /// Keeps the first `len` items, a count, and drops the others.
-    pub fn truncate(&mut self, len: usize)
-        ensures items { self.new.items ≡ take len self.old.items }
-        ensures room { self.new.room ≡ self.old.room }
-    {
-        self.items.truncate(len);
-    }
-
     /// Drops all items.
     #[inline(always)]
     pub fn clear(&mut self)
