@@ -1,15 +1,12 @@
 -- How a run with its summary goes on, step by step.
 use Rattle.std.proofs.Common.{◌≡◌, ℕ, ◌+◌, ◌<◌, ◌≤◌, List, [], ◌∷◌, ◌++◌, length, suc, take, drop, get_or, sum_by, refl, sym, ap, ◌∙◌, subst, arith}
 use Rattle.std.proofs.lemmas.List.{length-take-le}
-use Rattle.std.proofs.lemmas.List.Elements.{All-push}
 use Rattle.std.proofs.lemmas.List.Sums.{sum_by-cons}
 use Rattle.std.proofs.Math.Seq.{drop-cons}
 use Rattle.cs_types.specs.declared.event.Step.{Step}
-use Rattle.cs_types.specs.declared.event.Event.{Event}
 use Rattle.cs_types.specs.declared.reply.Entry.{Entry}
-use Rattle.cs_types.specs.Scenario.{IsEvent}
 use Rattle.cs_types.specs.Room.{Opening}
-use Rattle.cs_types.specs.History.{History, AreEvents, history_of}
+use Rattle.cs_types.specs.History.{History, history_of}
 use Rattle.cs_laws.proofs.Histories.{length-history_of}
 use Rattle.exposed_pairs.specs.Pairs.{most_rows}
 use Rattle.run_summary.specs.Summaries.{Summary, ArePartsOf}

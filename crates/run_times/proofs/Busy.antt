@@ -1,5 +1,5 @@
 -- Busy: what a sibling does that is online and does not run idle.
-use Rattle.std.proofs.Common.{◌≡◌, ℕ, Bool, true, false, cond, refl, sym, ap, ◌∙◌, subst, Option, Some, None}
+use Rattle.std.proofs.Common.{◌≡◌, ℕ, Bool, true, false, cond, refl, sym, ap, ◌∙◌, Option, Some, None}
 use Rattle.std.specs.Prelude.{◌&&◌, is_some, IfSome, Contains}
 use Rattle.std.specs.Option.{option_map, option_map_or, option_and_then}
 use Rattle.std.proofs.lemmas.Bool.{and_parts}
@@ -10,7 +10,6 @@ use Rattle.cs_types.specs.Laws.{pids_on}
 use Rattle.cs_types.proofs.Foremost.{each_weaker}
 use Rattle.cs_laws.proofs.Homes.{IsQueuedOn, each_queued}
 use Rattle.cs_laws.proofs.Rising.{AreRising}
-use Rattle.run_times.specs.declared.doing.Doing.{Doing}
 use Rattle.run_times.specs.declared.doing.Doing.TheVariants.{Offline, Runs}
 use Rattle.run_times.specs.Doing.{is_busy, cookie_run, cookie_at, idling, doing_of}
 

@@ -2,14 +2,14 @@
 use Rattle.std.proofs.Common.{◌≡◌, ℕ, ◌<◌, ◌≤◌, Bool, true, false, cond, List, [], ◌∷◌, ◌++◌, map, length, refl, sym, ap, ◌∙◌, subst, append_assoc, inl, inr, arith, Option, Some, None}
 use Rattle.std.specs.Prelude.{is_some, All, Contains, IsSomeAnd}
 use Rattle.std.specs.List.{AllByRecursion, range_with_len}
-use Rattle.std.specs.Option.{option_map, option_and_then, option_to_list}
+use Rattle.std.specs.Option.{option_map, option_to_list}
 use Rattle.std.proofs.lemmas.Bool.{cases_Bool, both_ways, and_from, and_parts, false_from_ne_true}
 use Rattle.std.proofs.lemmas.List.{append-nil}
 use Rattle.std.proofs.lemmas.List.Elements.{All-map, All-from_recursion, recursion_from_All}
 use Rattle.cs_types.specs.declared.task.Task.{Task}
 use Rattle.cs_types.specs.declared.reply.Entry.{Entry}
 use Rattle.cs_types.specs.Scenario.{IsEvent, IsPlayable}
-use Rattle.cs_types.specs.Room.{Opening, RoomState, sibling_of, running_on, task_of, is_online, online}
+use Rattle.cs_types.specs.Room.{Opening, RoomState, sibling_of, running_on, is_online, online}
 use Rattle.cs_types.specs.History.{History, Moment, next, moment_of, fold_of, AreEvents, IsLegal}
 use Rattle.cs_types.specs.Drain.{IsEndFrom, IsDrained}
 use Rattle.cs_types.specs.Laws.{IsSettled}

@@ -1,4 +1,4 @@
-use Rattle.std.proofs.Common.{◌≡◌, true, sym, ◌∙◌, arith}
+use Rattle.std.proofs.Common.{◌≡◌, true, sym, ◌∙◌}
 use Rattle.cs_types.specs.Room.{is_online}
 use Rattle.cs_types.specs.History.{fold_of, moment_of}
 use Rattle.run_times.proofs.Shown.{rises_of, shown_cpu}
