@@ -11,7 +11,7 @@ use crate::state::State;
 use core_lanes::{SiblingQueue, task_of};
 use cs_outside::Guard;
 use cs_types::{Pid, Steps, Task};
-use fork_inherit::{ForkFault, end_alone, fork};
+use fork_inherit::{ForkFault, end, fork};
 use std::sync::ledger::Ledger;
 
 impl<Q: SiblingQueue, G: Guard> State<Q, G> {
@@ -24,7 +24,7 @@ impl<Q: SiblingQueue, G: Guard> State<Q, G> {
     {
         self.core
             .put_to_sleep(&mut self.tasks, task.spec.pid, steps);
-        let (_, forced) = end_alone(&mut self.tasks, &mut self.refs, task.spec.pid);
+        let (_, forced) = end(&mut self.tasks, &mut self.refs, task.spec.pid).unwrap();
         self.ended.push((task.spec.pid, forced));
     }
 

@@ -53,7 +53,7 @@ pub fn has_threads(table: &TaskTable, task: &Task) -> bool
 /// the living (`do_exit`, kernel/exit.c), and the reference to its cookie is given back (`sched_core_free`,
 /// kernel/sched/core_sched.c). It gives the task and what it was charged for forced idle, in ns.
 #[inline(always)]
-pub fn end_alone(table: &mut TaskTable, refs: &mut CookieRefs, pid: Pid) -> (Task, u64)
+fn end_alone(table: &mut TaskTable, refs: &mut CookieRefs, pid: Pid) -> (Task, u64)
     requires asleep { IsSomeAnd (find (has_pid pid) table.old.tasks) (λ task. task.queued ≡ false) }
     requires alone { (room : RoomState) → room.tasks ≡ table.old.tasks →
         IfSome (find (has_pid pid) table.old.tasks) (λ task. has_threads room task ≡ false) }

@@ -5,5 +5,5 @@
 mod ending;
 mod forking;
 
-pub use ending::{HasThreads, end, end_alone, has_threads};
+pub use ending::{HasThreads, end, has_threads};
 pub use forking::{ForkFault, fork};
