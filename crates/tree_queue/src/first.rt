@@ -9,7 +9,7 @@ ghost use Rattle.cs_types.specs.declared.queue.Queued.{Queued as SomeQueued};
 ghost use Rattle.tree_queue.specs.Held.{seated, is_before, earlier, first_among, is_of, given_cookie, IsIn, IsInBut};
 
 use cs_types::{Cookie, Pid, Queued, Steps};
-use order_tree::Key;
+use order_tree::{Closed, Key};
 use run_queue::{RunQueue, queued_of};
 use std::sync::ledger::Ledger;
 use task_table::TaskTable;
@@ -76,7 +76,7 @@ pub fn give_cookie(first: &mut Option<Queued>, pid: Pid, cookie: Cookie)
 
 /// The first of the tasks that the trees hold, of which the table tells what else a queue has.
 pub fn find_first<L: Ledger>(
-    run: &RunQueue,
+    run: &RunQueue<Closed>,
     table: &TaskTable,
     steps: &mut Steps<L>,
 ) -> Option<Queued>
@@ -89,7 +89,7 @@ pub fn find_first<L: Ledger>(
 
 /// The same where this is one of the tasks, which the table does not have so yet. It is not looked up.
 pub fn find_first_with<L: Ledger>(
-    run: &RunQueue,
+    run: &RunQueue<Closed>,
     task: Queued,
     table: &TaskTable,
     steps: &mut Steps<L>,

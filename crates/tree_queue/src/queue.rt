@@ -14,6 +14,7 @@ use crate::task::{KINDS, LOTS, kind_of, lot_of};
 use crate::told_tasks::ToldTasks;
 use core_lanes::{SiblingQueue, is_on, task_of, tell_by_stamp};
 use cs_types::{Cookie, Cpu, OutOfMemory, Pid, Queued, Steps, Task};
+use order_tree::Closed;
 use run_queue::{RunQueue, queued_of};
 use std::alloc::Global;
 use std::sync::ledger::Ledger;
@@ -23,7 +24,7 @@ use task_table::TaskTable;
 /// cookies of each lot. A cookie of which no task has the lot is not looked for.
 #[derive(Drop)]
 pub struct TreeQueue {
-    run: RunQueue,
+    run: RunQueue<Closed>,
     /// The first task, none where there is no task.
     first: Option<Queued>,
     kinds: [u16; KINDS],
@@ -203,8 +204,8 @@ impl SiblingQueue for TreeQueue {
     ghost rises = { λ few many le. mul-le-mul_left 4 (most_comparisons-le few many le) };
 }
 
-/// A run queue with no task, which can take `most`.
-fn run_with_capacity(alloc: Global, most: u16) -> Result<RunQueue, OutOfMemory>
+/// A run queue with no task, which can take `most`. It is closed: an event that asks it for more does not compile.
+fn run_with_capacity(alloc: Global, most: u16) -> Result<RunQueue<Closed>, OutOfMemory>
     ensures { IfOk result (λ run. Holds run most []) }
 {
     let mut run = RunQueue::empty(alloc);
@@ -213,14 +214,14 @@ fn run_with_capacity(alloc: Global, most: u16) -> Result<RunQueue, OutOfMemory>
         drop(run);
         return Err(full);
     }
-    Ok(run)
+    Ok(run.close())
 }
 
 /// Tells the tasks of the trees by rising stamp, in a list that has as many places. It is seldom called, since most
 /// tasks are told by their arrivals.
 #[cold]
 #[inline(never)]
-fn tell_by_trees(run: &RunQueue, movers: &mut [Pid])
+fn tell_by_trees(run: &RunQueue<Closed>, movers: &mut [Pid])
     requires each { length movers.old ≡ len run.now.tasks }
     requires few { len run.now.tasks ≤ 256 }
     ensures told { AreTold (map stamped (entries run.now.tasks)) movers.new }
