@@ -37,7 +37,8 @@ pub struct OrderTree<A = Global> {
     spare: u32,
     /// The entry of the least key, which is asked for more often than it changes.
     first: Option<(Key, Pid)>,
-    alloc: A,
+    /// What it takes memory from.
+    memory: A,
 }
 
 /// What stands in the place of the allocator in a tree or a queue that takes no more memory.
@@ -71,7 +72,7 @@ impl OrderTree {
             count: 0,
             spare: 0,
             first: None,
-            alloc,
+            memory: alloc,
         }
     }
 
@@ -88,7 +89,7 @@ impl OrderTree {
         let Some(places) = self.count.checked_add(n) else {
             return Err(OutOfMemory);
         };
-        self.nodes = blank_nodes(self.alloc, n as usize, places as usize)?;
+        self.nodes = blank_nodes(self.memory, n as usize, places as usize)?;
         self.spare = n;
         Ok(())
     }
@@ -103,7 +104,7 @@ impl OrderTree {
             count: self.count,
             spare: self.spare,
             first: self.first,
-            alloc: Closed,
+            memory: Closed,
         }
     }
 }
