@@ -15,7 +15,10 @@ use bounded_list::BoundedList;
 use core_lanes::SiblingQueue;
 use core_tasks::{State, next_to_schedule};
 use cs_outside::Guard;
-use cs_types::{Actor, CoreView, Cpu, CpuView, EndView, Entry, Event, FromScenario, GuardView, OutOfMemory, Pid, Reply, Room, Scenario, Steps, Task, TaskView};
+use cs_types::{
+    Actor, CoreView, Cpu, CpuView, EndView, Entry, Event, FromScenario, GuardView, OutOfMemory,
+    Pid, Reply, Room, Scenario, Steps, Task, TaskView,
+};
 use ptrace_check::Guards;
 use std::alloc::Global;
 use std::marker::{Brand, Model};
