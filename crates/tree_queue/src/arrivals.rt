@@ -1,7 +1,7 @@
 //! The tasks that came to a queue, in the order in which they came. It is apart, since it is a hint: what it tells is
 //! looked up in the table, and nothing that is promised rests on what it keeps.
 
-ghost use Rattle.std.specs.Prelude.{◌≡◌, ℕ, ◌+◌, ◌^◌, ◌<◌, ◌≤◌, ◌++◌, length, take, drop, map, Contains, IsTrue};
+ghost use Rattle.std.specs.Prelude.{◌≡◌, [], ℕ, ◌+◌, ◌^◌, ◌<◌, ◌≤◌, ◌++◌, length, take, drop, map, Contains, IsTrue};
 ghost use Rattle.std.specs.List.{slice_index_or};
 ghost use Rattle.core_lanes.specs.Queued.{queued_among, mover_of, AreTold};
 ghost use Rattle.tree_queue.specs.Arrivals.{BeginsBelow};
@@ -54,7 +54,9 @@ impl Arrivals {
     }
 
     /// None is kept any more.
-    pub fn clear(&mut self) {
+    pub fn clear(&mut self)
+        ensures { self.new.moved.items ≡ [] }
+    {
         self.moved.clear();
         self.entries.clear();
     }
