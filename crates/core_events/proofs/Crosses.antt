@@ -3,6 +3,8 @@ use Rattle.std.proofs.Crossing as std
 use denote.RattleType.{RattleType}
 use denote.Struct.Declared.{shape}
 use denote.Param.Send.{IsSend, struct_send, recorded_send, view_send, sendable}
+use Rattle.bounded_list.proofs.list.BoundedList.TheSendSync as list
+use Rattle.cs_types.specs.contracts.reply.Entry as Entry
 use Rattle.core_lanes.specs.declared.queue.SiblingQueue as SiblingQueue
 use Rattle.cs_outside.specs.declared.guard.Guard as Guard
 use Rattle.core_tasks.proofs.state.State.TheSendSync as state
@@ -15,4 +17,4 @@ module _ (Q : RattleType) (G : RattleType) (g : SiblingQueue.Ghosts Q.Denot) (g'
       view_send _ _ _ _ _
       (recorded_send (Inside.the_field Q G g g').row _ _ (Inside.the_type Q G g g').to_one
       (struct_send (shape (Inside.the_type Q G g g'))
-      (search std.crosses, (search sendable, (search sendable, (state.the_field_send Q G g g' q s, (search (sendable, std.crosses) depth 40 fits 20000, tt)))))))
+      (search std.crosses, (search sendable, (search sendable, (state.the_field_send Q G g g' q s, (list.the_send Entry.the_row (search (sendable, std.crosses) depth 40 fits 20000), tt)))))))
