@@ -22,7 +22,7 @@ opening_with scenario guards = record { scenario = scenario; guards = guards }
 pub from_scenario-requires : goal.from_scenario-requires
 from_scenario-requires g c =
     let taught = c.in_ok-guards.ensures.taught in
-    record { playable = search rules; guards = taught ∙ (λ i. guards_on_bench (c.items.ensures i) (sym (count_on_bench _ _ _ taught) i)) }
+    record { playable = search rules; on_bench = taught ∙ (λ i. guards_on_bench (c.items.ensures i) (sym (count_on_bench _ _ _ taught) i)) }
 
 pub returns-in_err-scenario : goal.returns-in_err-scenario
 returns-in_err-scenario g c =
