@@ -19,9 +19,15 @@ pub fn opened(alloc: Global, text: &str) -> Option<(Scenario, PlainRoom<PairGuar
     ensures spare { IfSome result (λ opened.
         length opened.0.steps + opened.0.siblings * opened.0.siblings ≤ opened.1.spare) }
 {
-    let scenario = read(alloc, text.as_bytes()).ok()?;
+    let Ok(scenario) = read(alloc, text.as_bytes()) else {
+        return None;
+    };
     let list = Vec::<PairGuard>::new(alloc);
-    let guards = taught(alloc, list, scenario.teaches.items()).ok()?;
-    let room = PlainRoom::start(alloc, &scenario, guards).ok()?;
+    let Ok(guards) = taught(alloc, list, scenario.teaches.items()) else {
+        return None;
+    };
+    let Ok(room) = PlainRoom::start(alloc, &scenario, guards) else {
+        return None;
+    };
     Some((scenario, room))
 }
