@@ -195,15 +195,4 @@ impl<T: Copy> BoundedList<T> {
         }
         Ok(BoundedList { items })
     }
-
-    /// Puts copies of these items behind the others. There must be room for them all.
-    pub fn extend_from_slice(&mut self, others: &[T])
-        requires room { length self.old.items + length others.now ≤ self.old.room }
-        ensures items { self.new.items ≡ self.old.items ++ others.now }
-        ensures room { self.new.room ≡ self.old.room }
-    {
-        for other in others {
-            self.items.push_reserved(*other);
-        }
-    }
 }

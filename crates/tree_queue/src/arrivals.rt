@@ -14,8 +14,11 @@ use task_table::TaskTable;
 /// Tasks that came to a queue, each in its turn. Of those that left since nothing is taken out.
 #[derive(Drop)]
 pub struct Arrivals {
-    /// The pids of those that came all at once, by the last move.
+    /// A place for each task that the queue can take. In the first of them stand the pids of those that came all at once,
+    /// by the last move.
     moved: BoundedList<Pid>,
+    /// How many these are.
+    count: usize,
     /// The stamp of the first of these. Those of the others follow in a row.
     base: u64,
     /// The stamps and the pids of those that came one by one since, by rising stamp. Of these the first may be lower than
@@ -28,7 +31,8 @@ impl Arrivals {
     /// one. This call alone takes memory.
     pub fn with_capacity(alloc: Global, most: u16) -> Result<Arrivals, OutOfMemory> {
         Ok(Arrivals {
-            moved: BoundedList::with_room(alloc, usize::from(most))?,
+            moved: BoundedList::filled(alloc, 0, usize::from(most))?,
+            count: 0,
             base: 0,
             entries: BoundedList::with_room(alloc, 2 * usize::from(most))?,
         })
@@ -53,11 +57,14 @@ impl Arrivals {
         self.entries.partition_point(|entry| entry.0 < base)
     }
 
+    /// Those that came all at once, by the last move.
+    fn moved(&self) -> &[Pid] {
+        &self.moved[..self.count.min(self.moved.len())]
+    }
+
     /// None is kept any more.
-    pub fn clear(&mut self)
-        ensures { self.new.moved.items ≡ [] }
-    {
-        self.moved.clear();
+    pub fn clear(&mut self) {
+        self.count = 0;
         self.entries.clear();
     }
 
@@ -66,8 +73,9 @@ impl Arrivals {
     pub fn renew(&mut self, table: &TaskTable, movers: &[Pid]) {
         self.clear();
         self.base = first_stamp(table, movers);
-        if movers.len() <= self.moved.room() {
-            self.moved.extend_from_slice(movers);
+        if movers.len() <= self.moved.len() {
+            copy_behind(&mut self.moved, 0, movers);
+            self.count = movers.len();
         }
     }
 
@@ -80,7 +88,7 @@ impl Arrivals {
         ensures told { IsTrue result → AreTold (map mover_of (queued_among table.now.tasks cpu)) movers.new }
         ensures each { length movers.new ≡ length movers.old }
     {
-        let moved = self.moved.as_slice();
+        let moved = self.moved();
         let entries = self.entries.as_slice();
         if moved.len() + entries.len() > 2 * count + 16 {
             return false;

@@ -13,7 +13,7 @@ tell_entries-told-requires-clause-below c =
 pub tell_entries-told-requires-2-clause-below : goal.tell_entries-told-requires-2-clause-below
 tell_entries-told-requires-2-clause-below c =
     let all = map mover_of (queued_among c.args.table.now.tasks c.args.cpu) in
-    let past : c.args.self.now.base + length c.as_slice-moved.result.now ≡ c.in-Some.past = omega (arith, c.in-Some.ensures.1) in
+    let past : c.args.self.now.base + length c.moved-moved.result.now ≡ c.in-Some.past = omega (arith, c.in-Some.ensures.1) in
     subst (λ above. BeginsBelow all above c.tell_moved-told.result c.tell_moved-told.new.movers) past c.tell_moved-told.ensures.below
 
 pub returns-clause-told : goal.returns-clause-told
