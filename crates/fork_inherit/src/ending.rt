@@ -19,29 +19,17 @@ use thiserror::Error;
 #[error("the task leads a thread group that has another member")]
 pub struct HasThreads;
 
-/// Whether the thread group has its leader, and by the count of its span no other. The others of a group need not be
-/// looked for then. `false` may come of a group that has no other too.
-fn is_alone(table: &TaskTable, leader: Pid) -> bool
-    ensures { IsTrue result → list_any (λ (task : SomeTask). (task.spec.tgid == leader) && not (has_pid leader task)) table.now.tasks ≡ false }
-{
-    if table.most_in(Group::Threads(leader)) != 1 {
-        return false;
-    }
-    match table.find(leader) {
-        Some(task) => task.spec.tgid == leader,
-        None => false,
-    }
-}
-
-/// Whether the task leads a thread group that has another member.
+/// Whether the task, which is one of the table, leads a thread group that has another member. It is one of its group
+/// itself, so if the group has no more than one member, the others need not be looked for.
 pub fn has_threads(table: &TaskTable, task: &Task) -> bool
+    requires { find (has_pid task.now.spec.pid) table.now.tasks ≡ Some task.now }
     ensures { (room : RoomState) → room.tasks ≡ table.now.tasks → result ≡ has_threads room task.now }
 {
     let leader = task.spec.pid;
     if task.spec.tgid != leader {
         return false;
     }
-    if is_alone(table, leader) {
+    if table.most_in(Group::Threads(leader)) <= 1 {
         return false;
     }
     table
@@ -79,6 +67,7 @@ fn end_alone(table: &mut TaskTable, refs: &mut CookieRefs, pid: Pid) -> (Task, u
 ///
 /// `HasThreads` comes exactly where the task leads a thread group that has another member: there are
 /// no zombies. It changes nothing.
+#[inline(always)]
 pub fn end(
     table: &mut TaskTable,
     refs: &mut CookieRefs,

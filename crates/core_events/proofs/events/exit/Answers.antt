@@ -30,6 +30,9 @@ use Rattle.core_events.proofs.events.exit.Goals as goal
 pub run_idle-requires : goal.run_idle-requires
 run_idle-requires g c = subst (λ n. c.args.cpu < n) (sym c.end.ensures.touches.stays.siblings) (still_below c.charge.ensures.charges.stays c.requires.cpu)
 
+pub has_threads-requires : goal.has_threads-requires
+has_threads-requires g c = there_too c.runner.result c.args.state.now.tasks.tasks c.in-Some.task c.runner.ensures.there c.in-Some.ensures
+
 pub end-requires : goal.end-requires
 end-requires g c = record {
   there = subst (λ (table : Table). IsOf table.tasks c.in-Some.task) (sym c.charge.ensures.table) (there_too c.runner.result c.args.state.now.tasks.tasks c.in-Some.task c.runner.ensures.there c.in-Some.ensures);
