@@ -11,7 +11,7 @@ ghost use Rattle.cs_types.specs.declared.event.Actor.TheVariants.{Sibling, Calle
 use core_lock::{Pass, Shared, Spent};
 use cs_types::{Actor, Event, Kind, List, Pick, Pid, Reply, Room, Scenario, Step};
 use room_report::output;
-use row_inputs::{INPUT, sink_of};
+use row_inputs::{INPUT, next_after, sink_of};
 use row_runs::opened;
 use scripted_room::{Named, Scripted, Turn};
 use std::marker::Brand;
@@ -252,22 +252,6 @@ fn make_all<R: Wait, M: Room>(rt: &R, shared: &Shared<M>, mut pass: Pass<M>) -> 
     }
 }
 
-/// Expects that the first lines of the actor begin so, in their order. Answers the next one.
-pub fn expect_lines<'a>(
-    rt: &impl Abort,
-    text: &'a str,
-    actor: &str,
-    starts: &[&str],
-) -> Option<&'a str> {
-    let mut lines = text
-        .split_inclusive('\n')
-        .filter(|line| line.starts_with(actor));
-    for start in starts {
-        assert!(rt; lines.next().unwrap_or("").starts_with(*start));
-    }
-    lines.next()
-}
-
 /// The caller's lines in what the machine writes, and how the sibling's begin.
 const WAKES: [&str; 3] = [
     "c0 wake 1: Woken 0\n",
@@ -282,8 +266,8 @@ fn expect_orders<R: AllocGlobal + Abort, M: Room>(rt: &R, room: &M) {
     let mut sink = sink_of(rt.alloc(), 4096, &[]).expect(rt, "room");
     output(room, &mut sink).expect(rt, "a sink that takes all");
     let text = str::from_utf8(sink.bytes()).expect(rt, "a text");
-    assert!(rt; expect_lines(rt, text, "c0", &WAKES).is_none());
-    assert!(rt; expect_lines(rt, text, "s0", &TURNS).is_none());
+    assert!(rt; next_after(text, "c0", &WAKES) == Some(None));
+    assert!(rt; next_after(text, "s0", &TURNS) == Some(None));
 }
 
 /// Expects that two threads make the steps of a pass each.

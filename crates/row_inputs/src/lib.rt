@@ -1,12 +1,46 @@
-//! What the crates of tests hand in: texts of scenarios, words, and a source and a sink in memory. It has no
-//! test of its own. It knows no machine, so that who tests a part need not wait for one.
+//! What the crates of tests hand in: texts of scenarios, the worked examples, words, and a source and a sink in memory.
+//! It has no test of its own. It knows no machine, so that who tests a part need not wait for one.
 #![tactic(auto)]
 
+/// The script of this many siblings, of these limits, of these tasks, of these steps, each with its
+/// reply, of the picks of the end, where it makes some, each with its sibling, and of the lines of this
+/// report. A task is its pid, its policy and its sibling. It leads its own groups, and all are one user's.
+macro_rules! script {
+    (
+        $siblings:literal,
+        $limits:literal,
+        [$(($pid:literal, $policy:literal, $cpu:literal)),* $(,)?],
+        [$(($step:literal, $reply:literal)),* $(,)?],
+        $(end [$(($last:literal, $pick:literal)),+ $(,)?],)?
+        [$($line:literal),+ $(,)?] $(,)?
+    ) => {
+        Script {
+            text: concat!(
+                "coresched 1\nsiblings ", $siblings, "\nlimits ", $limits, "\n",
+                $("task ", $pid, " ", $pid, " ", $pid, " ", $cpu, " ", $policy, " 1000 1000 1000 1000 1000 1000 0 1 1\n",)*
+                $("step ", $step, "\n",)*
+                "end\n"
+            ),
+            entries: concat!(
+                $($step, ": ", $reply, "\n",)*
+                $($("end resched ", $last, ": ", $pick, "\n",)+)?
+            ),
+            report: $crate::report_of!($($line),+),
+        }
+    };
+}
+
 mod devices;
+mod examples;
+mod moves;
 mod reports;
 mod scenarios;
+mod scripts;
 mod texts;
 
 pub use devices::{sink_of, source_of};
+pub use examples::{EXAMPLES, FORK_AND_EXIT};
+pub use moves::{LAST_TASK_STOLEN, STEAL};
 pub use scenarios::{GROUP, INPUT, WORKED};
-pub use texts::{joined, words_of};
+pub use scripts::{CHARGED_AT_EXIT, FORCED_IDLE, FORCED_IDLE_TICK, Script};
+pub use texts::{joined, next_after, words_of};

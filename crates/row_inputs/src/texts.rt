@@ -19,3 +19,17 @@ pub fn words_of(alloc: Global, texts: &[&str]) -> Result<Vec<String>, AllocError
     }
     Ok(words)
 }
+
+/// The actor's next line after its first ones, if these begin so, in their order, and `Some(None)` if it has no more.
+/// `None` if one of them does not begin so, or is not there.
+pub fn next_after<'a>(text: &'a str, actor: &str, starts: &[&str]) -> Option<Option<&'a str>> {
+    let mut lines = text
+        .split_inclusive('\n')
+        .filter(|line| line.starts_with(actor));
+    for start in starts {
+        if !lines.next()?.starts_with(*start) {
+            return None;
+        }
+    }
+    Some(lines.next())
+}

@@ -5,5 +5,5 @@
 mod machine;
 mod program;
 
-pub use machine::opened;
+pub use machine::{opened, played};
 pub use program::{replayed, run_over_trees};

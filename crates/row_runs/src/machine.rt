@@ -6,7 +6,9 @@ ghost use Rattle.cs_types.specs.Scenario.{IsPlayable};
 use cs_outside::PairGuard;
 use cs_types::Scenario;
 use plain_room::PlainRoom;
+use row_inputs::Script;
 use scenario_input::taught;
+use scenario_runner::play;
 use scenario_text::read;
 use std::alloc::Global;
 
@@ -30,4 +32,14 @@ pub fn opened(alloc: Global, text: &str) -> Option<(Scenario, PlainRoom<PairGuar
         return None;
     };
     Some((scenario, room))
+}
+
+/// The machine of a worked example after all its steps, before the entries of the end. It has no guards. There is none
+/// without memory.
+pub fn played(alloc: Global, script: &Script) -> Option<PlainRoom<PairGuard>>
+    ensures { IfSome result (λ room. IsPlayable room.opening.scenario) }
+{
+    let (scenario, mut room) = opened(alloc, script.text)?;
+    play(&mut room, scenario.steps.items());
+    Some(room)
 }

@@ -1,11 +1,13 @@
-//! What a worked example is, and those of core-wide selections and of forced idle. The tests that play
-//! them stand in `examples`.
+//! What a worked example is, and those of core-wide selections and of forced idle.
 
-/// A text, and what the program writes for it.
+/// A worked example: a text, and what the program writes for it.
 #[derive(Clone, Copy)]
 pub struct Script {
+    /// The text of the scenario.
     pub text: &'static str,
+    /// The lines of its entries.
     pub entries: &'static str,
+    /// The report.
     pub report: &'static str,
 }
 

@@ -3,11 +3,10 @@
 
 ghost use Rattle.std.specs.Prelude.{◌≡◌};
 
-use crate::passes::expect_lines;
 use crate::races::parts_of;
 use cs_outside::{NoGate, PairGuard};
 use memory_outside::{MemSink, MemSource};
-use row_inputs::{source_of, words_of};
+use row_inputs::{next_after, source_of, words_of};
 use row_runs::run_over_trees;
 use scenario_runner::Status;
 use std::alloc::{AllocError, Global};
@@ -75,8 +74,8 @@ fn text_of_host(alloc: Global) -> Result<Vec<u8>, AllocError> {
 /// Expects the caller's first lines, these of sibling 0, and the first of the report.
 fn expect_host(rt: &impl Abort, sink: &MemSink, turns: &[&str]) {
     let (entries, report) = parts_of(rt, sink);
-    expect_lines(rt, entries, "c0 ", &CALLS);
-    expect_lines(rt, entries, "s0 ", turns);
+    assert!(rt; next_after(entries, "c0 ", &CALLS).is_some());
+    assert!(rt; next_after(entries, "s0 ", turns).is_some());
     assert!(rt; report.starts_with("clock 220000000\n"));
 }
 

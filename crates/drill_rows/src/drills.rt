@@ -1,15 +1,15 @@
 //! The drill: the scenarios of some seeds, by the lines of their texts, and the summaries of worked examples.
 
-use crate::examples::{FORK_AND_EXIT, played};
-use crate::moves::{LAST_TASK_STOLEN, STEAL};
-use crate::scripts::{FORCED_IDLE, Script};
 use core_state::CoreState;
 use cs_outside::{NoGate, PairGuard};
 use cs_types::Room;
 use memory_outside::MemSink;
 use room_drill::{generate, summary};
-use row_inputs::{joined, sink_of, source_of, words_of};
-use row_runs::run_over_trees;
+use row_inputs::{
+    FORCED_IDLE, FORK_AND_EXIT, LAST_TASK_STOLEN, STEAL, Script, joined, sink_of, source_of,
+    words_of,
+};
+use row_runs::{played, run_over_trees};
 use scenario_runner::{Status, drill};
 use scenario_writer::scenario_text;
 use std::process::Abort;
@@ -178,7 +178,12 @@ const SUMMARIES: [(Script, &str); 4] = [
 #[test]
 fn summaries_of_a_machine(rt: HostRuntime) {
     for (script, lines) in &SUMMARIES {
-        expect_summary(&rt, played(&rt, *script), lines, script.report);
+        expect_summary(
+            &rt,
+            played(rt.alloc(), script).expect(&rt, "a machine"),
+            lines,
+            script.report,
+        );
     }
 }
 
@@ -191,7 +196,10 @@ fn expect_cut_summary<R: AllocGlobal + Abort, M: Room>(rt: &R, room: M) {
 
 #[test]
 fn summary_that_is_cut(rt: HostRuntime) {
-    expect_cut_summary(&rt, played(&rt, FORCED_IDLE));
+    expect_cut_summary(
+        &rt,
+        played(rt.alloc(), &FORCED_IDLE).expect(&rt, "a machine"),
+    );
 }
 
 /// The first lines that the drill of seed 1 prints.

@@ -2,11 +2,10 @@
 //! Two siblings meet at a gate that neither passes alone, so a body that runs the actors one after another does
 //! not get through it.
 
-use crate::passes::expect_lines;
 use cs_outside::{Gate, NoGate, PairGuard};
 use cs_types::{Actor, Entry, Event, Reply, Room};
 use memory_outside::MemSink;
-use row_inputs::{sink_of, source_of, words_of};
+use row_inputs::{next_after, sink_of, source_of, words_of};
 use row_runs::{opened, run_over_trees};
 use scenario_runner::Status;
 use sibling_workers::race;
@@ -90,7 +89,7 @@ fn race_of_two_callers(rt: HostRuntime) {
     let sink = raced(&rt, TWO_CALLERS, &NoGate);
     let (entries, report) = parts_of(&rt, &sink);
     for (actor, lines) in &ORDERS {
-        assert!(rt; expect_lines(&rt, entries, actor, lines).is_none());
+        assert!(rt; next_after(entries, actor, lines) == Some(None));
     }
     assert!(rt; entries.lines().count() == 4 && report == REPORT);
 }

@@ -1,5 +1,5 @@
 //! Worked examples of tasks that go to another sibling, by a steal or by hotplug, and of a policy that is
-//! set. The tests that play them stand in `examples`.
+//! set.
 
 use crate::scripts::Script;
 

@@ -4,7 +4,6 @@
 ghost use Rattle.std.specs.Prelude.{◌≡◌, ◌+◌, ◌*◌, [], length};
 ghost use Rattle.cs_types.specs.Scenario.{IsPlayable};
 
-use crate::examples::EXAMPLES;
 use core_state::CoreState;
 use cs_outside::PairGuard;
 use cs_types::{CpuView, Pid, Room, Scenario};
@@ -12,7 +11,7 @@ use memory_outside::MemSink;
 use plain_room::PlainRoom;
 use room_drill::{generate, summary};
 use room_report::output;
-use row_inputs::{GROUP, WORKED};
+use row_inputs::{EXAMPLES, GROUP, WORKED};
 use scenario_input::{guards, taught};
 use scenario_runner::play;
 use scenario_text::read;

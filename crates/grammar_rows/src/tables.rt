@@ -1,56 +1,17 @@
-//! Texts of scenarios: one that is read, texts that are no scenario's, one for each rule of the grammar with
-//! its first bad line and kind, and the limit of steps on both sides.
+//! The lines and the texts that the tests read, each of those that are refused with the rule that it breaks, its first bad
+//! line and what is wrong with it.
 
-use cs_types::{Scenario, TaskSpec};
-use row_inputs::{INPUT, joined};
-use row_runs::replayed;
-use scenario_runner::Status;
-use scenario_text::{BadKind, ReadFault, read};
-use std::process::Abort;
-use std::sync::Wait;
-use std::thread::Threads;
-
-/// How many tasks and how many steps the scenario of a text has. The name says which text it is.
-fn counts_of<R: AllocGlobal + Abort>(rt: &R, text: &[u8], name: &str) -> (usize, usize) {
-    let scenario = read(rt.alloc(), text).expect(rt, name);
-    (scenario.tasks.items().len(), scenario.steps.items().len())
-}
-
-// What is written to the items of a list stays in it.
-#[test]
-fn reads_a_scenario(rt: HostRuntime) {
-    let mut scenario = read(rt.alloc(), INPUT.as_bytes()).expect(&rt, "a scenario");
-    assert!(rt;
-        matches!(
-            &scenario,
-            Scenario {
-                siblings: 2,
-                task_limit: 8,
-                cookie_limit: 8,
-                user_top: 65536,
-                ..
-            }
-        )
-    );
-    assert!(rt; (scenario.tasks.items().len(), scenario.steps.items().len()) == (3, 6));
-    scenario.tasks.items_mut().reverse();
-    assert!(rt;
-        matches!(
-            scenario.tasks.items().first(),
-            Some(TaskSpec { pid: 3, .. })
-        )
-    );
-}
+use scenario_text::BadKind;
 
 /// A head and one task.
-const HEAD: &str =
+pub const HEAD: &str =
     "coresched 1\nsiblings 2\nlimits 8 8 65536\ntask 1 1 1 0 fifo:10 0 0 0 0 0 0 0 1 1\n";
 
 /// A rule, the first bad line of a text that breaks it alone, what is wrong with that line, and the text.
-type Refused = (&'static str, u32, BadKind, &'static str);
+pub type Refused = (&'static str, u32, BadKind, &'static str);
 
 /// Texts that are no scenario's.
-const REFUSED_TEXTS: [Refused; 15] = [
+pub const REFUSED_TEXTS: [Refused; 15] = [
     ("some line", 1, BadKind::Cut, ""),
     ("a whole first line", 1, BadKind::Cut, "coresched 1"),
     (
@@ -134,7 +95,7 @@ const REFUSED_TEXTS: [Refused; 15] = [
 ];
 
 /// The same, behind the head and the task, whose lines are four, with steps.
-const REFUSED_STEPS: [Refused; 55] = [
+pub const REFUSED_STEPS: [Refused; 55] = [
     ("a last line feed", 5, BadKind::Cut, "end"),
     ("an end", 5, BadKind::Cut, ""),
     ("an end behind a step", 6, BadKind::Cut, "step s0 turn\n"),
@@ -398,7 +359,7 @@ const REFUSED_STEPS: [Refused; 55] = [
 ];
 
 /// The same, with tasks.
-const REFUSED_TASKS: [Refused; 31] = [
+pub const REFUSED_TASKS: [Refused; 31] = [
     (
         "the greatest pid of a task",
         5,
@@ -588,7 +549,7 @@ const REFUSED_TASKS: [Refused; 31] = [
 ];
 
 /// The same, with teach lines.
-const REFUSED_TEACHES: [Refused; 11] = [
+pub const REFUSED_TEACHES: [Refused; 11] = [
     (
         "the greatest guard",
         5,
@@ -653,7 +614,7 @@ const REFUSED_TEACHES: [Refused; 11] = [
 ];
 
 /// A tick, and for each argument of the other events the least and the greatest.
-const STEPS: &str = "step c0 load 0
+pub const STEPS: &str = "step c0 load 0
 step c7 load 15
 step c0 unload 0
 step c7 unload 15
@@ -670,7 +631,7 @@ step c0 prctl 1 3 -1 2 4096
 step c0 prctl 1 2 0 1 1";
 
 /// A task of each policy, with the least number and the greatest.
-const POLICIES: &str = "task 2 2 2 0 stop 0 0 0 0 0 0 0 1 1
+pub const POLICIES: &str = "task 2 2 2 0 stop 0 0 0 0 0 0 0 1 1
 task 2 2 2 0 dl:1 0 0 0 0 0 0 0 1 1
 task 2 2 2 0 dl:1000000000 0 0 0 0 0 0 0 1 1
 task 2 2 2 0 fifo:1 0 0 0 0 0 0 0 1 1
@@ -679,107 +640,3 @@ task 2 2 2 0 rr:1 0 0 0 0 0 0 0 1 1
 task 2 2 2 0 rr:99 0 0 0 0 0 0 0 1 1
 task 2 2 2 0 fair:-20 0 0 0 0 0 0 0 1 1
 task 2 2 2 0 fair:19 0 0 0 0 0 0 0 1 1";
-
-/// How many tasks and how many steps the scenario of the head, one line and an end has.
-fn counts_with<R: AllocGlobal + Abort>(rt: &R, line: &str) -> (usize, usize) {
-    let text = joined(rt.alloc(), &[HEAD, line, "\nend\n"]).expect(rt, "room");
-    counts_of(rt, &text, line)
-}
-
-#[test]
-fn reads_steps(rt: HostRuntime) {
-    for line in STEPS.lines() {
-        assert!(rt; counts_with(&rt, line).1 == 1);
-    }
-}
-
-#[test]
-fn reads_policies(rt: HostRuntime) {
-    for line in POLICIES.lines() {
-        assert!(rt; counts_with(&rt, line).0 == 2);
-    }
-}
-
-/// Expects that the text, which breaks this rule, is refused with this first bad line and what is wrong with it.
-/// The command ends so too, and writes nothing.
-fn expect_bad<R: Threads + Wait + AllocGlobal + Sync + Abort>(
-    rt: &R,
-    rule: &str,
-    text: &[u8],
-    line: u32,
-    kind: BadKind,
-) {
-    assert!(rt;
-        matches!(
-            read(rt.alloc(), text),
-            Err(ReadFault::Bad { line: found, kind: what }) if found == line && what == kind
-        ),
-        "{rule}"
-    );
-    let (status, sink) = replayed(rt, text).expect(rt, "room");
-    assert!(rt; status == Status::BadScenario { line, kind });
-    assert!(rt; sink.bytes() == b"".as_slice());
-}
-
-/// The head, and behind it this text.
-fn text_of<R: AllocGlobal + Abort>(rt: &R, head: &str, rest: &str) -> Vec<u8> {
-    joined(rt.alloc(), &[head, rest]).expect(rt, "room")
-}
-
-/// Expects that each of these texts is refused behind the head.
-fn expect_refused<R: Threads + Wait + AllocGlobal + Sync + Abort>(
-    rt: &R,
-    head: &str,
-    texts: &[Refused],
-) {
-    for (rule, line, kind, rest) in texts {
-        let text = text_of(rt, head, rest);
-        expect_bad(rt, rule, &text, *line, *kind);
-    }
-}
-
-#[test]
-fn refuses_other_texts(rt: HostRuntime) {
-    expect_refused(&rt, "", &REFUSED_TEXTS);
-    expect_refused(&rt, HEAD, &REFUSED_STEPS);
-    expect_refused(&rt, HEAD, &REFUSED_TASKS);
-    expect_refused(&rt, HEAD, &REFUSED_TEACHES);
-}
-
-/// A text of a head, one task and this line so many times.
-fn text_of_lines<R: AllocGlobal + Abort>(rt: &R, line: &str, count: usize) -> Vec<u8> {
-    let lines = line.repeat(rt.alloc(), count).expect(rt, "room");
-    joined(rt.alloc(), &[HEAD, &lines, "end\n"]).expect(rt, "room")
-}
-
-/// A step.
-const STEP: &str = "step s0 turn\n";
-
-/// A teach line.
-const TEACH: &str = "teach 15 0 65535\n";
-
-#[test]
-fn reads_100000_steps(rt: HostRuntime) {
-    let text = text_of_lines(&rt, STEP, 100_000);
-    assert!(rt; counts_of(&rt, &text, "a scenario").1 == 100_000);
-}
-
-// Each teach has the number of its own line: four lines stand before the first.
-#[test]
-fn reads_64_teaches(rt: HostRuntime) {
-    let text = text_of_lines(&rt, TEACH, 64);
-    let scenario = read(rt.alloc(), &text).expect(&rt, "a scenario");
-    let teaches = scenario.teaches.items();
-    assert!(rt; teaches.len() == 64);
-    for place in 0..64 {
-        assert!(rt; teaches[place].line as usize == place + 5);
-    }
-}
-
-#[test]
-fn refuses_a_line_too_many(rt: HostRuntime) {
-    for (line, count, last) in [(STEP, 100_001, 100_005), (TEACH, 65, 69)] {
-        let text = text_of_lines(&rt, line, count);
-        expect_bad(&rt, "the limit of lines", &text, last, BadKind::Full);
-    }
-}
