@@ -19,8 +19,19 @@ use thiserror::Error;
 #[error("the task leads a thread group that has another member")]
 pub struct HasThreads;
 
+/// Whether the thread group has a member that is not its leader. It is seldom asked, and walks over the group.
+#[inline(never)]
+fn has_others(table: &TaskTable, leader: Pid) -> bool
+    ensures { result ≡ list_any (λ (task : SomeTask). (task.spec.tgid == leader) && not (has_pid leader task)) table.now.tasks }
+{
+    table
+        .members(Group::Threads(leader))
+        .any(|other| other.spec.pid != leader)
+}
+
 /// Whether the task, which is one of the table, leads a thread group that has another member. It is one of its group
 /// itself, so if the group has no more than one member, the others need not be looked for.
+#[inline(always)]
 pub fn has_threads(table: &TaskTable, task: &Task) -> bool
     requires { find (has_pid task.now.spec.pid) table.now.tasks ≡ Some task.now }
     ensures { (room : RoomState) → room.tasks ≡ table.now.tasks → result ≡ has_threads room task.now }
@@ -32,9 +43,7 @@ pub fn has_threads(table: &TaskTable, task: &Task) -> bool
     if table.most_in(Group::Threads(leader)) <= 1 {
         return false;
     }
-    table
-        .members(Group::Threads(leader))
-        .any(|other| other.spec.pid != leader)
+    has_others(table, leader)
 }
 
 /// The task with the pid, which is asleep and leads no thread group that has another member, is no longer among
