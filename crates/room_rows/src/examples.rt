@@ -7,7 +7,7 @@ use cs_types::{Actor, Cookie, Cpu, Entry, Event, Kind, Pid, Reply, Room};
 use room_report::{output, report};
 use row_inputs::{
     CHARGED_AT_EXIT, EXAMPLES, FORCED_IDLE, FORCED_IDLE_TICK, FORK_AND_EXIT, Script, joined,
-    sink_of,
+    other_line, sink_of,
 };
 use row_runs::{played, replayed};
 use scenario_runner::Status;
@@ -23,8 +23,11 @@ fn examples_are_played(rt: HostRuntime) {
     for script in &EXAMPLES {
         let output = output_of(&rt, script);
         let (status, sink) = replayed(&rt, script.text.as_bytes()).expect(&rt, "room");
-        assert!(rt; status == Status::Done);
-        assert!(rt; sink.bytes() == output.as_slice());
+        let name = script.name;
+        assert!(rt; status == Status::Done, "{name}");
+        if let Some(line) = other_line(sink.bytes(), &output) {
+            panic!(rt; "{name}: another line {line}");
+        }
     }
 }
 

@@ -11,6 +11,7 @@ use crate::scripts::{
 /// The earlier deadline goes first, a deadline task forks none, and a sibling that runs idle has no task
 /// that could sleep or end. The running task becomes a fair one, and makes way.
 const DEADLINES: Script = script!(
+    "DEADLINES",
     2,
     "8 8 65536",
     [(1, "dl:50", 0), (2, "dl:20", 0)],
@@ -43,6 +44,7 @@ const DEADLINES: Script = script!(
 
 /// An RR task goes behind the other of its priority at the first tick after it has used its slice.
 const ROUND_ROBIN: Script = script!(
+    "ROUND_ROBIN",
     2,
     "8 8 65536",
     [(1, "rr:10", 0), (2, "rr:10", 0)],
@@ -70,6 +72,7 @@ const ROUND_ROBIN: Script = script!(
 
 /// The virtual time of a light task runs ahead of the clock.
 const GROWTH: Script = script!(
+    "GROWTH",
     2,
     "8 8 65536",
     [(1, "fair:5", 0)],
@@ -91,6 +94,7 @@ const GROWTH: Script = script!(
 
 /// A task forks up to the limit of tasks, under its cookie, and its children end.
 pub const FORK_AND_EXIT: Script = script!(
+    "FORK_AND_EXIT",
     2,
     "3 8 65536",
     [(1, "fair:0", 0)],
@@ -125,6 +129,7 @@ pub const FORK_AND_EXIT: Script = script!(
 /// group, 5 may not be dumped, 6 has the capability, 7 too. The group's call that is refused uses
 /// cookie 1. Where one sibling alone is online, each call is refused.
 const REFUSALS: Script = Script {
+    name: "REFUSALS",
     text: concat!(
         "coresched 1\nsiblings 2\nlimits 8 1 65536\n",
         "task 1 1 1 0 fair:0 1000 1000 1000 1000 1000 1000 0 1 1\n",
@@ -172,6 +177,7 @@ const REFUSALS: Script = Script {
 
 /// A last reference that is given back makes room under the limit.
 const LAST_REFERENCE: Script = script!(
+    "LAST_REFERENCE",
     2,
     "8 1 65536",
     [(1, "fair:0", 0), (2, "fair:0", 0)],

@@ -2,11 +2,12 @@
 //! It has no test of its own. It knows no machine, so that who tests a part need not wait for one.
 #![tactic(auto)]
 
-/// The script of this many siblings, of these limits, of these tasks, of these steps, each with its
+/// The script of this name, of this many siblings, of these limits, of these tasks, of these steps, each with its
 /// reply, of the picks of the end, where it makes some, each with its sibling, and of the lines of this
 /// report. A task is its pid, its policy and its sibling. It leads its own groups, and all are one user's.
 macro_rules! script {
     (
+        $name:literal,
         $siblings:literal,
         $limits:literal,
         [$(($pid:literal, $policy:literal, $cpu:literal)),* $(,)?],
@@ -15,6 +16,7 @@ macro_rules! script {
         [$($line:literal),+ $(,)?] $(,)?
     ) => {
         Script {
+            name: $name,
             text: concat!(
                 "coresched 1\nsiblings ", $siblings, "\nlimits ", $limits, "\n",
                 $("task ", $pid, " ", $pid, " ", $pid, " ", $cpu, " ", $policy, " 1000 1000 1000 1000 1000 1000 0 1 1\n",)*
@@ -43,4 +45,4 @@ pub use examples::{EXAMPLES, FORK_AND_EXIT};
 pub use moves::{LAST_TASK_STOLEN, STEAL};
 pub use scenarios::{GROUP, INPUT, WORKED};
 pub use scripts::{CHARGED_AT_EXIT, FORCED_IDLE, FORCED_IDLE_TICK, Script};
-pub use texts::{joined, next_after, words_of};
+pub use texts::{joined, next_after, other_line, words_of};

@@ -6,6 +6,7 @@ use crate::scripts::Script;
 /// Sibling 0 idles beside its own task of another cookie, and steals from the next one. There it passes over
 /// a task that waits, one that runs, and one that was chosen beside more tasks than its idle was.
 pub const STEAL: Script = script!(
+    "STEAL",
     4,
     "8 8 65536",
     [
@@ -63,6 +64,7 @@ pub const STEAL: Script = script!(
 
 /// The only task of an idle sibling is stolen, and so that sibling is to select anew.
 pub const LAST_TASK_STOLEN: Script = script!(
+    "LAST_TASK_STOLEN",
     3,
     "8 8 65536",
     [(1, "fifo:50", 0), (2, "fifo:10", 1), (3, "fifo:20", 2)],
@@ -96,6 +98,7 @@ pub const LAST_TASK_STOLEN: Script = script!(
 
 /// A sibling leaves while it runs a task, which runs on the other then. It comes back without it.
 pub const HOTPLUG: Script = script!(
+    "HOTPLUG",
     2,
     "8 8 65536",
     [(1, "fifo:10", 1)],
@@ -127,6 +130,7 @@ pub const HOTPLUG: Script = script!(
 /// A sibling that is forced idle leaves with two tasks of one priority: the interval is charged, they keep
 /// their order, and a third one that sleeps there is woken on the other.
 pub const LEAVES_WITH_QUEUE: Script = script!(
+    "LEAVES_WITH_QUEUE",
     2,
     "8 8 65536",
     [
@@ -165,6 +169,7 @@ pub const LEAVES_WITH_QUEUE: Script = script!(
 
 /// What is refused of siblings that are offline or online already, and a policy for no task.
 pub const REFUSED_MOVES: Script = script!(
+    "REFUSED_MOVES",
     2,
     "8 8 65536",
     [(1, "fifo:10", 1)],
@@ -196,6 +201,7 @@ pub const REFUSED_MOVES: Script = script!(
 /// A running task that is given the policy that it has goes behind the other of its priority, and begins a
 /// new slice.
 pub const SAME_POLICY: Script = script!(
+    "SAME_POLICY",
     2,
     "8 8 65536",
     [(1, "rr:10", 0), (2, "rr:10", 0)],

@@ -3,6 +3,8 @@
 /// A worked example: a text, and what the program writes for it.
 #[derive(Clone, Copy)]
 pub struct Script {
+    /// The name of its constant.
+    pub name: &'static str,
     /// The text of the scenario.
     pub text: &'static str,
     /// The lines of its entries.
@@ -13,6 +15,7 @@ pub struct Script {
 
 /// No task and no step.
 pub const NOTHING: Script = script!(
+    "NOTHING",
     2,
     "4 4 65536",
     [],
@@ -30,6 +33,7 @@ pub const NOTHING: Script = script!(
 /// The other sibling's task has another cookie. That sibling looks once for one with the core's, and the
 /// running task is charged at a tick.
 pub const FORCED_IDLE: Script = script!(
+    "FORCED_IDLE",
     2,
     "8 8 65536",
     [(1, "fifo:50", 0), (2, "fifo:40", 1)],
@@ -59,6 +63,7 @@ pub const FORCED_IDLE: Script = script!(
 
 /// The other sibling adopts a lower task that has the core cookie.
 pub const LOWER_MATCH: Script = script!(
+    "LOWER_MATCH",
     2,
     "8 8 65536",
     [(1, "fifo:50", 0), (2, "fifo:40", 1), (3, "fifo:5", 1)],
@@ -88,6 +93,7 @@ pub const LOWER_MATCH: Script = script!(
 /// For core cookie 0 a sibling whose first task has a cookie idles, though a lower one has none. No
 /// interval opens.
 pub const CORE_COOKIE_0: Script = script!(
+    "CORE_COOKIE_0",
     2,
     "8 8 65536",
     [(1, "fifo:50", 0), (2, "fifo:40", 1), (3, "fifo:5", 1)],
@@ -117,6 +123,7 @@ pub const CORE_COOKIE_0: Script = script!(
 
 /// Of two leads that are equal each sibling takes its own. At the end the other one leaves.
 pub const TIE_OF_LEADS: Script = script!(
+    "TIE_OF_LEADS",
     2,
     "8 8 65536",
     [(1, "fifo:50", 0), (2, "fifo:50", 1)],
@@ -143,6 +150,7 @@ pub const TIE_OF_LEADS: Script = script!(
 
 /// What waits is not adopted after a wake.
 pub const STALE_PICK: Script = script!(
+    "STALE_PICK",
     2,
     "8 8 65536",
     [
@@ -179,6 +187,7 @@ pub const STALE_PICK: Script = script!(
 /// A fair task that is alone on its sibling, and has run for so long while the other is forced idle, is
 /// asked to leave. Then that one's task leads, whose virtual time has not grown.
 pub const FORCED_IDLE_TICK: Script = script!(
+    "FORCED_IDLE_TICK",
     2,
     "8 8 65536",
     [(1, "fair:0", 0), (2, "fair:0", 1)],
@@ -209,6 +218,7 @@ pub const FORCED_IDLE_TICK: Script = script!(
 
 /// Two siblings are forced idle beside two tasks, of which one only waits. Each gets 7 * 2 / 2.
 pub const TWO_SHARES: Script = script!(
+    "TWO_SHARES",
     4,
     "8 8 65536",
     [
@@ -251,6 +261,7 @@ pub const TWO_SHARES: Script = script!(
 
 /// One sibling is forced idle beside three tasks. Each gets 10 / 3, rounded down.
 pub const THREE_SHARES: Script = script!(
+    "THREE_SHARES",
     4,
     "8 8 65536",
     [
@@ -294,6 +305,7 @@ pub const THREE_SHARES: Script = script!(
 
 /// A task is charged at its exit, and its total is kept.
 pub const CHARGED_AT_EXIT: Script = script!(
+    "CHARGED_AT_EXIT",
     2,
     "8 8 65536",
     [(1, "fifo:50", 0), (2, "fifo:40", 1)],
