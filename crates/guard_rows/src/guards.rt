@@ -1,22 +1,17 @@
-//! Guards: what the commands write of them, teach lines that cannot be carried out, each public call, and
-//! guards of a stranger's.
+//! Guards: what the commands write of them, teach lines that cannot be carried out, and each public call.
 
 ghost use Rattle.std.specs.Prelude.{◌≡◌, All, vec_len};
 ghost use Rattle.ptrace_check.specs.Guards.{AreFresh};
 
-use crate::strangers::LongGuard;
 use core_state::CoreState;
 use cs_outside::{Guard, NullGuard, PairGuard, TeachFault};
 use cs_types::GuardPlace;
 use memory_outside::{ListGuard, MemSink, MemSource};
 use ptrace_check::{Guards, LoadAnswer, TeachAnswer, UnloadAnswer};
-use row_inputs::{GROUP, WORKED, joined, report_of, sink_of, source_of, words_of};
+use row_inputs::{GROUP, WORKED, WORKED_OUTPUT, joined, report_of, sink_of, source_of, words_of};
 use scenario_input::guards;
 use scenario_runner::{GuardKind, Status, replay};
-use std::alloc::Global;
 use std::process::Abort;
-use std::sync::Arc;
-use std::sync::atomic::{AtomicU64, Ordering};
 
 /// The four guards of the program.
 fn four<R: AllocGlobal + Abort>(rt: &R) -> Vec<PairGuard>
@@ -69,19 +64,6 @@ fn empty_scenario(rt: HostRuntime) {
     let text = b"coresched 1\nsiblings 2\nlimits 4 4 65536\nend\n";
     expect_guarded(&rt, text, four(&rt), Status::Done, &[NOTHING]);
 }
-
-/// A guard refuses only while it is active. Nobody is asked about the caller itself, nor after another has
-/// refused. This goes up to the second guard.
-const WORKED_OUTPUT: &str = concat!(
-    "c0 prctl 1 2 2 0 0: 0\nc0 load 0: Loaded\nc0 load 0: NoGuard\nc0 load 1: Loaded\n",
-    "c0 prctl 1 2 2 0 0: EPERM\nc0 prctl 1 2 1 0 0: 0\nc0 unload 0: Dropped\n",
-    "c0 prctl 1 2 2 0 0: 0\nc0 unload 0: NoGuard\nc0 load 7: NoGuard\n",
-    "report\nclock 0\nnumbers 0 0\ncore 0 forced 0 occupation 0\nintervals 0\n",
-    "cpu 0 online runs idle number 0\ncpu 1 online runs idle number 0\n",
-    "task 1 cpu 0 asleep cookie 0 forced 0 vtime 0\n",
-    "task 2 cpu 0 asleep cookie 0 forced 0 vtime 0\n",
-    "guard 0 dropped asked 1\nguard 1 active asked 1\n",
-);
 
 /// The lines of two more guards, which stay on the bench.
 const TWO_MORE: &str = "guard 2 bench asked 0\nguard 3 bench asked 0\n";
@@ -269,43 +251,6 @@ fn guards_of_a_core(rt: HostRuntime) {
     expect_dropped(&rt, &guards);
 }
 
-/// A counter of drops.
-pub fn counter<R: AllocGlobal + Abort>(rt: &R) -> Arc<AtomicU64, Global> {
-    Arc::new(rt.alloc(), AtomicU64::new(0)).expect(rt, "room")
-}
-
-/// Two guards of a stranger's, whose drops are counted there.
-pub fn two_long<R: AllocGlobal + Abort>(rt: &R, drops: &Arc<AtomicU64, Global>) -> Vec<LongGuard>
-    ensures two { vec_len result ≡ 2 }
-    ensures fresh { AreFresh (λ guard. guard.pairs.items) (λ guard. guard.asked) result.items }
-{
-    let guards = [
-        LongGuard::empty(rt.alloc(), Arc::try_clone(drops).expect(rt, "a reference")),
-        LongGuard::empty(rt.alloc(), Arc::try_clone(drops).expect(rt, "a reference")),
-    ];
-    Vec::from_array(rt.alloc(), guards).expect(rt, "room")
-}
-
-/// Expects that so many guards were let go.
-pub fn expect_drops(rt: &impl Abort, drops: &Arc<AtomicU64, Global>, wanted: u64) {
-    assert!(rt; drops.load(Ordering::SeqCst) == wanted);
-}
-
-// Both are let go, the one by its unload and the other at the end.
-#[test]
-fn guards_of_a_stranger(rt: HostRuntime) {
-    let drops = counter(&rt);
-    let output = [WORKED_OUTPUT, "done\n"];
-    expect_guarded(
-        &rt,
-        WORKED.as_bytes(),
-        two_long(&rt, &drops),
-        Status::Done,
-        &output,
-    );
-    expect_drops(&rt, &drops, 2);
-}
-
 // Guards of two types are handed in as boxes, by a function that holds nothing else of them.
 #[test]
 fn guards_of_two_types(rt: HostRuntime) {
@@ -316,17 +261,4 @@ fn guards_of_two_types(rt: HostRuntime) {
     guards.push(null).expect(&rt, "room");
     let output = [WORKED_OUTPUT, "done\n"];
     expect_guarded(&rt, WORKED.as_bytes(), guards, Status::Done, &output);
-}
-
-// Of a guard that is unloaded nothing is left, also where others stay.
-#[test]
-fn guard_is_let_go_when_it_is_unloaded(rt: HostRuntime) {
-    let drops = counter(&rt);
-    let mut guards = Guards::of(rt.alloc(), two_long(&rt, &drops)).expect(&rt, "room");
-    guards.load(1);
-    expect_drops(&rt, &drops, 0);
-    guards.unload(1);
-    expect_drops(&rt, &drops, 1);
-    drop(guards);
-    expect_drops(&rt, &drops, 2);
 }

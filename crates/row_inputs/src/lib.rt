@@ -43,6 +43,6 @@ mod texts;
 pub use devices::{sink_of, source_of};
 pub use examples::{EXAMPLES, FORK_AND_EXIT};
 pub use moves::{LAST_TASK_STOLEN, STEAL};
-pub use scenarios::{GROUP, INPUT, WORKED};
+pub use scenarios::{GROUP, INPUT, WORKED, WORKED_OUTPUT};
 pub use scripts::{CHARGED_AT_EXIT, FORCED_IDLE, FORCED_IDLE_TICK, Script};
 pub use texts::{joined, next_after, other_line, words_of};

@@ -27,6 +27,19 @@ pub const WORKED: &str = concat!(
     "step c0 prctl 1 2 2 0 0\nstep c0 unload 0\nstep c0 load 7\nend\n",
 );
 
+/// A guard refuses only while it is active. Nobody is asked about the caller itself, nor after another has
+/// refused. This goes up to the second guard.
+pub const WORKED_OUTPUT: &str = concat!(
+    "c0 prctl 1 2 2 0 0: 0\nc0 load 0: Loaded\nc0 load 0: NoGuard\nc0 load 1: Loaded\n",
+    "c0 prctl 1 2 2 0 0: EPERM\nc0 prctl 1 2 1 0 0: 0\nc0 unload 0: Dropped\n",
+    "c0 prctl 1 2 2 0 0: 0\nc0 unload 0: NoGuard\nc0 load 7: NoGuard\n",
+    "report\nclock 0\nnumbers 0 0\ncore 0 forced 0 occupation 0\nintervals 0\n",
+    "cpu 0 online runs idle number 0\ncpu 1 online runs idle number 0\n",
+    "task 1 cpu 0 asleep cookie 0 forced 0 vtime 0\n",
+    "task 2 cpu 0 asleep cookie 0 forced 0 vtime 0\n",
+    "guard 0 dropped asked 1\nguard 1 active asked 1\n",
+);
+
 /// Root with the capability, and a process group of two tasks of two other users. A guard refuses it the
 /// first of these.
 pub const GROUP: &str = concat!(

@@ -1,11 +1,11 @@
-//! The plain machine of a text.
+//! The machine over trees of a text.
 
 ghost use Rattle.std.specs.Prelude.{◌≡◌, ◌+◌, ◌*◌, ◌≤◌, [], length, IfSome};
 ghost use Rattle.cs_types.specs.Scenario.{IsPlayable};
 
+use core_state::CoreState;
 use cs_outside::PairGuard;
 use cs_types::Scenario;
-use plain_room::PlainRoom;
 use row_inputs::Script;
 use scenario_input::taught;
 use scenario_runner::play;
@@ -14,7 +14,7 @@ use std::alloc::Global;
 
 /// The scenario of this text, and the machine of it before its first step. It has no guards. There is none of a text
 /// that is no scenario's, of one that teaches a guard, and without memory.
-pub fn opened(alloc: Global, text: &str) -> Option<(Scenario, PlainRoom<PairGuard>)>
+pub fn opened(alloc: Global, text: &str) -> Option<(Scenario, CoreState<PairGuard>)>
     ensures playable { IfSome result (λ opened. IsPlayable opened.0) }
     ensures scenario { IfSome result (λ opened. opened.1.opening.scenario ≡ opened.0) }
     ensures empty { IfSome result (λ opened. opened.1.steps ≡ []) }
@@ -28,7 +28,7 @@ pub fn opened(alloc: Global, text: &str) -> Option<(Scenario, PlainRoom<PairGuar
     let Ok(guards) = taught(alloc, list, scenario.teaches.items()) else {
         return None;
     };
-    let Ok(room) = PlainRoom::start(alloc, &scenario, guards) else {
+    let Ok(room) = CoreState::start(alloc, &scenario, guards) else {
         return None;
     };
     Some((scenario, room))
@@ -36,7 +36,7 @@ pub fn opened(alloc: Global, text: &str) -> Option<(Scenario, PlainRoom<PairGuar
 
 /// The machine of a worked example after all its steps, before the entries of the end. It has no guards. There is none
 /// without memory.
-pub fn played(alloc: Global, script: &Script) -> Option<PlainRoom<PairGuard>>
+pub fn played(alloc: Global, script: &Script) -> Option<CoreState<PairGuard>>
     ensures { IfSome result (λ room. IsPlayable room.opening.scenario) }
 {
     let (scenario, mut room) = opened(alloc, script.text)?;

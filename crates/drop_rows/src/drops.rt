@@ -4,20 +4,42 @@
 ghost use Rattle.std.specs.Prelude.{◌≡◌, All, vec_len};
 ghost use Rattle.ptrace_check.specs.Guards.{AreFresh};
 
-use crate::guards::{counter, expect_drops, two_long};
 use crate::strangers::{LongGuard, PoorGuard};
 use core_state::CoreState;
 use cs_outside::{Guard, NoGate};
 use memory_outside::{MemSink, MemSource};
-use row_inputs::{WORKED, sink_of, source_of, words_of};
+use ptrace_check::Guards;
+use row_inputs::{WORKED, WORKED_OUTPUT, joined, sink_of, source_of, words_of};
 use row_runs::run_over_trees;
 use scenario_runner::{GuardKind, Status, replay};
 use scenario_text::BadKind;
 use std::alloc::Global;
 use std::process::Abort;
-use std::sync::atomic::AtomicU64;
+use std::sync::atomic::{AtomicU64, Ordering};
 use std::sync::{Arc, Wait};
 use std::thread::Threads;
+
+/// A counter of drops.
+fn counter<R: AllocGlobal + Abort>(rt: &R) -> Arc<AtomicU64, Global> {
+    Arc::new(rt.alloc(), AtomicU64::new(0)).expect(rt, "room")
+}
+
+/// Two guards of a stranger's, whose drops are counted there.
+fn two_long<R: AllocGlobal + Abort>(rt: &R, drops: &Arc<AtomicU64, Global>) -> Vec<LongGuard>
+    ensures two { vec_len result ≡ 2 }
+    ensures fresh { AreFresh (λ guard. guard.pairs.items) (λ guard. guard.asked) result.items }
+{
+    let guards = [
+        LongGuard::empty(rt.alloc(), Arc::try_clone(drops).expect(rt, "a reference")),
+        LongGuard::empty(rt.alloc(), Arc::try_clone(drops).expect(rt, "a reference")),
+    ];
+    Vec::from_array(rt.alloc(), guards).expect(rt, "room")
+}
+
+/// Expects that so many guards were let go.
+fn expect_drops(rt: &impl Abort, drops: &Arc<AtomicU64, Global>, wanted: u64) {
+    assert!(rt; drops.load(Ordering::SeqCst) == wanted);
+}
 
 /// A text, the calls of the source and of the sink that fail, with 0 for none, and how it ends.
 #[derive(Drop)]
@@ -72,6 +94,35 @@ const ENDS: [End; 5] = [
         status: Status::WriteFault,
     },
 ];
+
+// Both are let go, the one by its unload and the other at the end.
+#[test]
+fn guards_of_a_stranger(rt: HostRuntime) {
+    let drops = counter(&rt);
+    let words = words_of(rt.alloc(), &["replay"]).expect(&rt, "room");
+    let mut source = source_of(rt.alloc(), WORKED.as_bytes(), 65_536, &[]).expect(&rt, "room");
+    let mut sink = sink_of(rt.alloc(), 4096, &[]).expect(&rt, "room");
+    let guards = two_long(&rt, &drops);
+    assert!(rt;
+        run_over_trees(&rt, &words, &mut source, &mut sink, &NoGate, guards) == Status::Done
+    );
+    let output = joined(rt.alloc(), &[WORKED_OUTPUT, "done\n"]).expect(&rt, "room");
+    assert!(rt; sink.bytes() == output.as_slice());
+    expect_drops(&rt, &drops, 2);
+}
+
+// Of a guard that is unloaded nothing is left, also where others stay.
+#[test]
+fn guard_is_let_go_when_it_is_unloaded(rt: HostRuntime) {
+    let drops = counter(&rt);
+    let mut guards = Guards::of(rt.alloc(), two_long(&rt, &drops)).expect(&rt, "room");
+    guards.load(1);
+    expect_drops(&rt, &drops, 0);
+    guards.unload(1);
+    expect_drops(&rt, &drops, 1);
+    drop(guards);
+    expect_drops(&rt, &drops, 2);
+}
 
 /// Expects that `run` with these words and guards ends so.
 fn expect_end<R: Threads + Wait + AllocGlobal + Sync + Abort, G: Guard + Send>(

@@ -1,0 +1,7 @@
+//! Each guard that is handed in is let go once, however the command ends: guards that somebody else wrote count their drops.
+#![tactic(auto)]
+
+#[cfg(test)]
+mod drops;
+#[cfg(test)]
+mod strangers;
