@@ -2,7 +2,6 @@
 
 ghost use Rattle.std.specs.Prelude.{◌^◌, ◌<◌, ◌≤◌};
 
-use crate::legend::LEGEND_LINES;
 use cs_types::Cpu;
 
 /// Where the lanes begin, from the left edge.
@@ -19,9 +18,6 @@ pub(crate) const RIGHT: u64 = LEFT + LANES_WIDTH;
 
 /// Where the shares of a lane begin.
 pub(crate) const SHARES_LEFT: u64 = RIGHT + 8;
-
-/// Where the looks of the cookies begin.
-pub(crate) const COOKIES_LEFT: u64 = 960;
 
 /// How wide the page is.
 pub(crate) const PAGE_WIDTH: u64 = RIGHT + 134;
@@ -100,8 +96,10 @@ impl Frame {
         self.axis() + 52
     }
 
-    /// How high the page is.
-    pub(crate) fn height(self) -> u64 {
-        self.legend() + LEGEND_LINES * LEGEND_STEP + 12
+    /// How high the page is, with this number of lines in the legend.
+    pub(crate) fn height(self, legend_lines: u64) -> u64
+        requires { legend_lines < 2 ^ 32 }
+    {
+        self.legend() + legend_lines * LEGEND_STEP + 12
     }
 }

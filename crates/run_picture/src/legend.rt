@@ -1,19 +1,28 @@
-//! The legend: what each mark means, in words, and the look of each cookie.
+//! The legend: the look of each cookie, and what each mark means, in words. Nothing stands beside the words, which may be
+//! as wide as the font makes them.
 
-ghost use Rattle.std.specs.Prelude.{◌≡◌, ◌^◌, ◌<◌, OnOk, OnErr};
+ghost use Rattle.std.specs.Prelude.{◌≡◌, ◌^◌, ◌<◌, ◌≤◌, OnOk, OnErr};
 ghost use Rattle.cs_outside.specs.Device.{Rose};
 
-use crate::frame::{COOKIES_LEFT, Frame, LEFT, LEGEND_STEP};
+use crate::frame::{Frame, LEFT, LEGEND_STEP};
 use crate::look::{Hatch, Look};
 use crate::paint::Paint;
 use crate::piece::{Piece, write_pieces};
 use cs_outside::{Failed, Sink};
 use cs_types::Cookie;
-use run_segments::{RunSegments, Segment};
+use run_segments::Segment;
 use run_times::Doing;
 
-/// How many cookies the legend can show, in two columns.
-const COOKIES: u64 = 2 * LEGEND_LINES;
+/// In how many columns the looks of the cookies stand, and how wide one is.
+const COLUMNS: u64 = 6;
+
+const COLUMN_WIDTH: u64 = 200;
+
+/// How many lines they take at most.
+const COOKIE_LINES: u64 = 3;
+
+/// How many cookies the legend can show.
+const COOKIES: u64 = COLUMNS * COOKIE_LINES;
 
 /// What a line of the legend explains.
 #[derive(Clone, Copy)]
@@ -42,15 +51,22 @@ const ENTRIES: [Entry; 9] = [
     Entry::Pointer,
 ];
 
-/// How many lines the legend has.
-pub(crate) const LEGEND_LINES: u64 = ENTRIES.len() as u64;
+/// How many lines they take.
+const ENTRY_LINES: u64 = ENTRIES.len() as u64;
+
+/// The cookies that the legend lists.
+#[derive(Clone, Copy)]
+pub(crate) struct Listed {
+    /// The least that the run shows, by rising cookie, and 0 after the last.
+    cookies: [Cookie; COOKIES as usize],
+}
 
 impl Entry {
     /// What is said of the mark.
     fn words(self) -> &'static str {
         match self {
             Entry::Runs =>
-                "A task without a cookie runs. Tasks with a cookie are drawn in the look of their cookie, as listed on the right.",
+                "A task without a cookie runs. Tasks with a cookie are drawn in the look of their cookie, as listed above.",
             Entry::Forced =>
                 "Forced idle: a task waits on this sibling, but has not the cookie that the core is given to. The hatch has the colour of that cookie, grey for none.",
             Entry::Idles => "Idle: no task waits on this sibling.",
@@ -115,6 +131,41 @@ fn cookie_above(segments: &[Segment], above: Cookie) -> Option<Cookie> {
     least
 }
 
+impl Listed {
+    /// The cookies of these segments, as many as the legend can show.
+    pub(crate) fn of(segments: &[Segment]) -> Listed {
+        let mut cookies = [0; COOKIES as usize];
+        let mut last = 0;
+        for number in 0..COOKIES {
+            let Some(cookie) = cookie_above(segments, last) else {
+                return Listed { cookies };
+            };
+            cookies[number as usize] = cookie;
+            last = cookie;
+        }
+        Listed { cookies }
+    }
+
+    /// How many lines they take.
+    fn lines(&self) -> u64
+        ensures { result ≤ 3 }
+    {
+        for line in 0..COOKIE_LINES {
+            if self.cookies[(line * COLUMNS) as usize] == 0 {
+                return line;
+            }
+        }
+        COOKIE_LINES
+    }
+
+    /// How many lines the legend has.
+    pub(crate) fn legend_lines(&self) -> u64
+        ensures { result < 2 ^ 32 }
+    {
+        self.lines() + ENTRY_LINES
+    }
+}
+
 /// Writes the begin of an entry: where it stands, in units.
 fn write_place<K: Sink>(sink: &mut K, left: u64, top: u64) -> Result<(), Failed>
     ensures faultless { OnOk result (K.faults sink.new ≡ K.faults sink.old) }
@@ -138,7 +189,7 @@ fn write_entries<K: Sink>(sink: &mut K, top: u64) -> Result<(), Failed>
     ensures faultless { OnOk result (K.faults sink.new ≡ K.faults sink.old) }
     ensures failed { OnErr result (Rose (K.faults sink.old) (K.faults sink.new)) }
 {
-    for line in 0..LEGEND_LINES {
+    for line in 0..ENTRY_LINES {
         let entry = ENTRIES[line as usize];
         write_place(sink, LEFT, top + line * LEGEND_STEP)?;
         write_pieces(sink, entry.sample())?;
@@ -161,8 +212,8 @@ fn write_cookie<K: Sink>(sink: &mut K, top: u64, number: u64, cookie: Cookie) ->
     ensures faultless { OnOk result (K.faults sink.new ≡ K.faults sink.old) }
     ensures failed { OnErr result (Rose (K.faults sink.old) (K.faults sink.new)) }
 {
-    let left = COOKIES_LEFT + number / LEGEND_LINES * 200;
-    write_place(sink, left, top + number % LEGEND_LINES * LEGEND_STEP)?;
+    let left = LEFT + number % COLUMNS * COLUMN_WIDTH;
+    write_place(sink, left, top + number / COLUMNS * LEGEND_STEP)?;
     write_pieces(
         sink,
         &[
@@ -177,29 +228,32 @@ fn write_cookie<K: Sink>(sink: &mut K, top: u64, number: u64, cookie: Cookie) ->
     )
 }
 
-/// Writes the looks of the cookies by rising cookie, as many as the legend can show.
-fn write_cookies<K: Sink>(sink: &mut K, top: u64, segments: &[Segment]) -> Result<(), Failed>
+/// Writes the looks of the listed cookies.
+fn write_cookies<K: Sink>(sink: &mut K, top: u64, listed: &Listed) -> Result<(), Failed>
     requires { top < 2 ^ 32 }
     ensures faultless { OnOk result (K.faults sink.new ≡ K.faults sink.old) }
     ensures failed { OnErr result (Rose (K.faults sink.old) (K.faults sink.new)) }
 {
-    let mut last = 0;
     for number in 0..COOKIES {
-        let Some(cookie) = cookie_above(segments, last) else {
+        let cookie = listed.cookies[number as usize];
+        if cookie == 0 {
             return Ok(());
-        };
+        }
         write_cookie(sink, top, number, cookie)?;
-        last = cookie;
     }
     Ok(())
 }
 
-/// Writes the legend. At an `Err` the sink has failed.
-pub(crate) fn write_legend<K: Sink>(sink: &mut K, run: &RunSegments) -> Result<(), Failed>
+/// Writes the legend of a page with this number of lanes. At an `Err` the sink has failed.
+pub(crate) fn write_legend<K: Sink>(
+    sink: &mut K,
+    siblings: u8,
+    listed: &Listed,
+) -> Result<(), Failed>
     ensures faultless { OnOk result (K.faults sink.new ≡ K.faults sink.old) }
     ensures failed { OnErr result (Rose (K.faults sink.old) (K.faults sink.new)) }
 {
-    let top = Frame::of(run.siblings()).legend();
-    write_entries(sink, top)?;
-    write_cookies(sink, top, run.segments())
+    let top = Frame::of(siblings).legend();
+    write_cookies(sink, top, listed)?;
+    write_entries(sink, top + listed.lines() * LEGEND_STEP)
 }

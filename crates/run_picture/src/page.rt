@@ -7,7 +7,7 @@ use crate::axis::write_axis;
 use crate::frame::{Frame, LEFT};
 use crate::head::{write_begin, write_head};
 use crate::lane::write_lane;
-use crate::legend::write_legend;
+use crate::legend::{Listed, write_legend};
 use crate::piece::{Piece, write_pieces};
 use crate::row::{write_exposure, write_moments, write_pending};
 use crate::scale::Scale;
@@ -63,7 +63,11 @@ pub fn picture<K: Sink>(run: &RunSegments, sink: &mut K) -> Result<(), Failed>
         return write_empty(sink, run);
     }
     let scale = Scale::of(run.total(), run.siblings());
-    write_begin(sink, Frame::of(run.siblings()).height())?;
+    let listed = Listed::of(run.segments());
+    write_begin(
+        sink,
+        Frame::of(run.siblings()).height(listed.legend_lines()),
+    )?;
     write_tiles(sink)?;
     write_head(sink, scale, run)?;
     write_exposure(sink, run)?;
@@ -71,6 +75,6 @@ pub fn picture<K: Sink>(run: &RunSegments, sink: &mut K) -> Result<(), Failed>
     write_lanes(sink, scale, run)?;
     write_pending(sink, run)?;
     write_moments(sink, run)?;
-    write_legend(sink, run)?;
+    write_legend(sink, run.siblings(), &listed)?;
     write_pieces(sink, &[Piece::Text("</svg>\n")])
 }
