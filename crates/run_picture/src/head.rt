@@ -10,7 +10,8 @@ use cs_outside::{Failed, Sink};
 use run_segments::{RunSegments, Window};
 
 /// How marks are drawn, by their classes: b behind the lanes, e exposed, p and q pending, t events, l lanes, i idle, x offline,
-/// f frames, a the axis, n names, r shares, h the head.
+/// f frames, a the axis, n names, r shares, h the head. A mark of exposure has an outline of its own colour, so that a
+/// short one is orange too.
 const STYLE: &str = "<style>\n\
 text{font:12px sans-serif;fill:#222}\n\
 .h{font-size:17px;font-weight:bold}\n\
@@ -22,7 +23,7 @@ text{font:12px sans-serif;fill:#222}\n\
 .i{fill:#fff;fill-opacity:0}\n\
 .x{fill:none;stroke:#777;stroke-width:.7;pointer-events:none}\n\
 .b{fill:#d55e00;fill-opacity:.13}\n\
-.e{fill:#d55e00;stroke:#000;stroke-width:.6}\n\
+.e{fill:#d55e00;stroke:#d55e00;stroke-width:.6}\n\
 .p{fill:none;stroke:#000;stroke-width:1.6;stroke-dasharray:5 3;pointer-events:none}\n\
 .q{fill:#000;stroke:none}\n\
 .t{fill:#444}\n\

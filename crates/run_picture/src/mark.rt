@@ -21,6 +21,9 @@ const HIGH: u64 = LANE_HEIGHT * UNIT;
 
 const SEEN: u64 = 4 * UNIT;
 
+/// How wide a mark is at least that has an outline, in thousandths of a unit. It would hide one that is narrower.
+const OUTLINED: u64 = 3 * UNIT;
+
 /// A rectangle on a lane, in thousandths of a unit.
 #[derive(Clone, Copy)]
 struct Area {
@@ -62,7 +65,11 @@ fn write_rect<K: Sink>(sink: &mut K, strip: Strip, paint: Paint) -> Result<(), F
             Piece::Length(strip.width),
             Piece::Text("\" height=\""),
             Piece::Number(LANE_HEIGHT),
-            Piece::Text("\""),
+            Piece::Text(if strip.width < OUTLINED {
+                "\" style=\"stroke:none\""
+            } else {
+                "\""
+            }),
             Piece::Fill(paint),
             Piece::Text(">"),
         ],
