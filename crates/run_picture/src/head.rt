@@ -9,15 +9,16 @@ use crate::scale::Scale;
 use cs_outside::{Failed, Sink};
 use run_segments::{RunSegments, Window};
 
-/// How marks are drawn, by their classes: b behind the lanes, e exposed, p and q pending, t events, l lanes, i idle, x offline,
-/// f frames, a the axis, n names, r shares, h the head. A mark of exposure has an outline of its own colour, so that a
-/// short one is orange too.
+/// How marks are drawn, by their classes: b behind the lanes, e exposed, p and q pending, t events, l lanes, m and s labels,
+/// i idle, x offline, f frames, a the axis, n names, r shares, h the head. A mark of exposure has an outline of its own
+/// colour, so that a short one is orange too.
 const STYLE: &str = "<style>\n\
 text{font:12px sans-serif;fill:#222}\n\
 .h{font-size:17px;font-weight:bold}\n\
 .n{font-size:13px;font-weight:bold;text-anchor:end}\n\
 .r{font-size:10px;text-anchor:start}\n\
-.l>text:not([class]){text-anchor:middle;pointer-events:none;paint-order:stroke;stroke:#fff;stroke-width:3px}\n\
+.m{text-anchor:middle;pointer-events:none;paint-order:stroke;stroke:#fff;stroke-width:3px}\n\
+.s{font-size:9px;stroke-width:2px}\n\
 .l>rect[fill]{stroke:#fff;stroke-width:.8}\n\
 .f{fill:none;stroke:#bbb}\n\
 .i{fill:#fff;fill-opacity:0}\n\
