@@ -11,6 +11,9 @@ from where that begins to where it ends, with no wide gap in between. One of for
 sibling was that, or goes over some narrow ones of which one was. Each of these may begin a unit before its end, so as to be
 seen.
 
+The words in a mark are those of its segment, and stand in its middle. They do not run out of it in DejaVu Sans, which is a
+wide font. A mark of a running task that has room for the pid names it.
+
 Usage: pictures.py --program PATH --count N --seed S    compares the examples and N random scenarios
 """
 import argparse
@@ -34,6 +37,13 @@ MOST_BYTES = 2_000_000
 
 # In thousandths of a unit of the page: where the lanes begin, how wide they are, and what is seen of a span at least.
 LEFT, LANES, UNIT = 76_000, 1_200_000, 1_000
+
+# How high a lane is, and how wide a mark is at least that has room for a pid of at most 5 digits.
+HEIGHT, UPRIGHT = 30_000, 12_000
+
+# How wide letters are in DejaVu Sans, in thousandths of the size of the type.
+WIDTHS = {**dict.fromkeys('0123456789', 637), ' ': 318, ',': 318, 'a': 613, 'b': 635, 'c': 550, 'd': 635, 'e': 616, 'f': 353, 'h': 634,
+          'i': 278, 'k': 580, 'l': 278, 'n': 634, 'o': 612, 'r': 412, 's': 521, 't': 393, 'y': 592}
 
 
 class Wrong(Exception):
@@ -98,6 +108,16 @@ class Run:
         return 's%d %s%s, %s to %s (%s)' % (it['sibling'], does, ', reschedule pending' * it['pending'],
                                             told(it['from']), told(it['to']), told(it['to'] - it['from']))
 
+    @staticmethod
+    def labels(it):
+        """What may stand in a segment's mark."""
+        if it['state'] == 'running':
+            cookie = 'cookie %d' % it['cookie'] if it['cookie'] else 'no cookie'
+            return 'task %d, %s' % (it['pid'], cookie), '%d' % it['pid']
+        if it['forced']:
+            return 'forced idle by cookie %d' % it['cookie'] if it['cookie'] else 'forced idle, core has no cookie', 'forced idle'
+        return (it['state'],) if it['state'] == 'offline' else ()
+
     def windows(self):
         """When two siblings ran tasks with distinct cookies: pairs of moments, by rising time."""
         changes = sorted((clock, -side, it['cookie']) for it in self.segments if it['state'] == 'running'
@@ -158,6 +178,14 @@ def span_of(node):
     else:
         place, width = node.getAttribute('x'), node.getAttribute('width')
     return thousandths(place), thousandths(place) + thousandths(width)
+
+
+def label_of(mark):
+    """The words in a mark, if it has any. The cross of a mark stands before them."""
+    it = mark.nextSibling
+    while it and (it.nodeType != it.ELEMENT_NODE or it.nodeName == 'path'):
+        it = it.nextSibling
+    return it if it and it.nodeName == 'text' and it.getAttribute('class') in ('m', 'm s') else None
 
 
 def rects_of(groups, name):
@@ -257,6 +285,34 @@ def need_no_false_mark(picture, run):
         need_titles(picture.marks[cpu], run, cpu)
 
 
+def need_label(label, mark, words):
+    """Raises Wrong where words in a mark are not one of these, do not stand in its middle, or run out of it."""
+    (begin, end), text = span_of(mark), label.firstChild.data
+    upright = re.fullmatch(r'translate\(([0-9.]+),15\) rotate\(-90\)', label.getAttribute('transform'))
+    size = 9 if label.getAttribute('class') == 'm s' else 12
+    length = sum(map(WIDTHS.get, text)) * size if text in words else None
+    if length is None or thousandths(upright[1] if upright else label.getAttribute('x')) != begin + (end - begin) // 2:
+        raise Wrong('not the words of the mark from %d to %d: %s' % (begin, end, text))
+    across, along = (size * UNIT, length) if upright else (length, size * UNIT)
+    if across > end - begin or along > HEIGHT:
+        raise Wrong('runs out of its mark, from %d to %d: %s' % (begin, end, text))
+
+
+def need_labels(lane, run, cpu):
+    """Raises Wrong where the words in the marks of a lane are wrong, or a pid is not there that has room."""
+    segments, found = {run.words(it): it for it in run.lanes[cpu]}, 0
+    for mark in lane.childNodes:
+        if mark.nodeName == 'rect' and words_of(mark):
+            it, label = segments[words_of(mark)], label_of(mark)
+            if label:
+                found += 1
+                need_label(label, mark, run.labels(it))
+            elif it['state'] == 'running' and it['pid'] < 100_000 and run.place(it['to']) - run.place(it['from']) >= UPRIGHT:
+                raise Wrong('no pid in: %s' % words_of(mark))
+    if found != sum(it.nodeName == 'text' and it.getAttribute('class').startswith('m') for it in lane.childNodes):
+        raise Wrong('words in no mark on s%d' % cpu)
+
+
 def compare(text, run):
     """Raises Wrong where the picture does not show the run."""
     need_closed(text)
@@ -271,6 +327,8 @@ def compare(text, run):
         raise Wrong('%d lanes' % len(picture.lanes))
     need_marks(picture, run)
     need_no_false_mark(picture, run)
+    for cpu, lane in enumerate(picture.lanes):
+        need_labels(lane, run, cpu)
 
 
 def long_run(rng, siblings, steps, most):
