@@ -11,7 +11,7 @@ use memory_outside::MemSink;
 use plain_room::PlainRoom;
 use room_drill::{generate, summary};
 use room_report::output;
-use row_inputs::{EXAMPLES, GROUP, WORKED};
+use row_inputs::{GROUP, OF_SELECTIONS, OF_TASKS, WORKED};
 use scenario_input::{guards, taught};
 use scenario_runner::play;
 use scenario_text::read;
@@ -101,8 +101,15 @@ fn expect_text_agreement<R: AllocGlobal + Abort>(rt: &R, text: &str) {
 }
 
 #[test]
-fn machines_agree_on_worked_examples(rt: HostRuntime) {
-    for example in &EXAMPLES {
+fn machines_agree_on_selections(rt: HostRuntime) {
+    for example in &OF_SELECTIONS {
+        expect_text_agreement(&rt, example.text);
+    }
+}
+
+#[test]
+fn machines_agree_on_tasks(rt: HostRuntime) {
+    for example in &OF_TASKS {
         expect_text_agreement(&rt, example.text);
     }
 }

@@ -6,28 +6,42 @@ ghost use Rattle.cs_types.specs.Scenario.{IsPlayable};
 use cs_types::{Actor, Cookie, Cpu, Entry, Event, Kind, Pid, Reply, Room};
 use room_report::{output, report};
 use row_inputs::{
-    CHARGED_AT_EXIT, EXAMPLES, FORCED_IDLE, FORCED_IDLE_TICK, FORK_AND_EXIT, Script, joined,
-    other_line, sink_of,
+    CHARGED_AT_EXIT, FORCED_IDLE, FORCED_IDLE_TICK, FORK_AND_EXIT, OF_SELECTIONS, OF_TASKS, Script,
+    joined, other_line, sink_of,
 };
 use row_runs::{played, replayed};
 use scenario_runner::Status;
 use std::process::Abort;
+use std::sync::Wait;
+use std::thread::Threads;
 
 /// What the program writes for the script: its entries and its report.
 fn output_of<R: AllocGlobal + Abort>(rt: &R, script: &Script) -> Vec<u8> {
     joined(rt.alloc(), &[script.entries, script.report]).expect(rt, "room")
 }
 
+/// Expects that the command plays the script, and writes its entries and its report.
+fn expect_played<R: Threads + Wait + AllocGlobal + Sync + Abort>(rt: &R, script: &Script) {
+    let output = output_of(rt, script);
+    let (status, sink) = replayed(rt, script.text.as_bytes()).expect(rt, "room");
+    let name = script.name;
+    assert!(rt; status == Status::Done, "{name}");
+    if let Some(line) = other_line(sink.bytes(), &output) {
+        panic!(rt; "{name}: another line {line}");
+    }
+}
+
 #[test]
-fn examples_are_played(rt: HostRuntime) {
-    for script in &EXAMPLES {
-        let output = output_of(&rt, script);
-        let (status, sink) = replayed(&rt, script.text.as_bytes()).expect(&rt, "room");
-        let name = script.name;
-        assert!(rt; status == Status::Done, "{name}");
-        if let Some(line) = other_line(sink.bytes(), &output) {
-            panic!(rt; "{name}: another line {line}");
-        }
+fn examples_of_selections_are_played(rt: HostRuntime) {
+    for script in &OF_SELECTIONS {
+        expect_played(&rt, script);
+    }
+}
+
+#[test]
+fn examples_of_tasks_are_played(rt: HostRuntime) {
+    for script in &OF_TASKS {
+        expect_played(&rt, script);
     }
 }
 

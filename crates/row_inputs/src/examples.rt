@@ -1,4 +1,5 @@
-//! Worked examples of classes, of births and ends, and of refusals, and the list of all.
+//! Worked examples of classes, of births and ends, and of refusals, and the lists of all. There are two, since one of
+//! all is more than the prover reads at once.
 
 use crate::moves::{
     HOTPLUG, LAST_TASK_STOLEN, LEAVES_WITH_QUEUE, REFUSED_MOVES, SAME_POLICY, STEAL,
@@ -200,8 +201,8 @@ const LAST_REFERENCE: Script = script!(
     ],
 );
 
-/// The worked examples: of selections, of accounts, of tasks and of moves.
-pub const EXAMPLES: [Script; 22] = [
+/// The worked examples of selections and of accounts.
+pub const OF_SELECTIONS: [Script; 10] = [
     NOTHING,
     FORCED_IDLE,
     LOWER_MATCH,
@@ -212,6 +213,10 @@ pub const EXAMPLES: [Script; 22] = [
     TWO_SHARES,
     THREE_SHARES,
     CHARGED_AT_EXIT,
+];
+
+/// The worked examples of classes, of births and ends, of refusals and of moves.
+pub const OF_TASKS: [Script; 12] = [
     DEADLINES,
     ROUND_ROBIN,
     GROWTH,

@@ -41,7 +41,7 @@ mod scripts;
 mod texts;
 
 pub use devices::{sink_of, source_of};
-pub use examples::{EXAMPLES, FORK_AND_EXIT};
+pub use examples::{FORK_AND_EXIT, OF_SELECTIONS, OF_TASKS};
 pub use moves::{LAST_TASK_STOLEN, STEAL};
 pub use scenarios::{GROUP, INPUT, WORKED, WORKED_OUTPUT};
 pub use scripts::{CHARGED_AT_EXIT, FORCED_IDLE, FORCED_IDLE_TICK, Script};
