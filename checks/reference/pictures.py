@@ -4,7 +4,9 @@ scenarios, and two runs of 100,000 steps.
 
 Each picture is valid XML without scripts and without references to anything else. Each segment that is wide enough for a
 mark of its own has it, at its place and with its words. Where a sibling was forced idle, where it had a pending
-reschedule, and where tasks with distinct cookies ran side by side, there is a mark of that. No picture has 2,000,000 bytes.
+reschedule, and where tasks with distinct cookies, or of distinct thread groups, ran side by side, there is a mark of that. The
+head says for how long they did. Below each lane marks say how many tasks wait, compared with the rules as reference.py has
+them. No picture has 2,000,000 bytes.
 
 And no mark is false. One with the words of a segment stands at its place. One of exposure or of a pending reschedule goes
 from where that begins to where it ends, with no wide gap in between. One of forced idle is a segment's in which the
@@ -28,11 +30,12 @@ import xml.dom.minidom
 import xml.parsers.expat
 
 sys.path.insert(0, os.path.dirname(os.path.abspath(__file__)))
+import reference
 import runs
 import scenarios
 
 EXAMPLES = os.path.join(os.path.dirname(os.path.abspath(__file__)), '..', '..', 'examples')
-COLUMNS = ['from', 'to', 'sibling', 'state', 'cookie', 'pending', 'forced', 'pid']
+COLUMNS = ['from', 'to', 'sibling', 'state', 'cookie', 'pending', 'forced', 'pid', 'group']
 MOST_BYTES = 2_000_000
 
 # In thousandths of a unit of the page: where the lanes begin, how wide they are, and what is seen of a span at least.
@@ -42,8 +45,8 @@ LEFT, LANES, UNIT = 76_000, 1_200_000, 1_000
 HEIGHT, UPRIGHT = 30_000, 12_000
 
 # How wide letters are in DejaVu Sans, in thousandths of the size of the type.
-WIDTHS = {**dict.fromkeys('0123456789', 637), ' ': 318, ',': 318, 'a': 613, 'b': 635, 'c': 550, 'd': 635, 'e': 616, 'f': 353, 'h': 634,
-          'i': 278, 'k': 580, 'l': 278, 'n': 634, 'o': 612, 'r': 412, 's': 521, 't': 393, 'y': 592}
+WIDTHS = {**dict.fromkeys('0123456789', 637), ' ': 318, ',': 318, 'a': 613, 'b': 635, 'c': 550, 'd': 635, 'e': 616, 'f': 353, 'g': 635, 'h': 634,
+          'i': 278, 'k': 580, 'l': 278, 'n': 634, 'o': 612, 'p': 635, 'r': 412, 's': 521, 't': 393, 'u': 634, 'y': 592}
 
 
 class Wrong(Exception):
@@ -79,10 +82,11 @@ class Run:
         self.siblings = 1 + max((it['sibling'] for it in self.segments), default=0)
         self.lanes = [[it for it in self.segments if it['sibling'] == cpu] for cpu in range(self.siblings)]
         self.grain = max(UNIT, 400 * self.siblings)
+        self.by = 'cookie' if any(it['cookie'] for it in self.segments) else 'group'
 
     @staticmethod
     def segment(cells):
-        for column in ('from', 'to', 'sibling', 'cookie', 'pid'):
+        for column in ('from', 'to', 'sibling', 'cookie', 'pid', 'group'):
             cells[column] = int(cells[column] or 0)
         for column in ('pending', 'forced'):
             cells[column] = cells[column] == 'yes'
@@ -100,7 +104,7 @@ class Run:
         if it['state'] == 'offline':
             does = 'is offline'
         elif it['state'] == 'running':
-            does = 'runs task %d ' % it['pid'] + ('with cookie %d' % it['cookie'] if it['cookie'] else 'without a cookie')
+            does = 'runs task %d of thread group %d ' % (it['pid'], it['group']) + ('with cookie %d' % it['cookie'] if it['cookie'] else 'without a cookie')
         elif not it['forced']:
             does = 'idles'
         else:
@@ -108,9 +112,10 @@ class Run:
         return 's%d %s%s, %s to %s (%s)' % (it['sibling'], does, ', reschedule pending' * it['pending'],
                                             told(it['from']), told(it['to']), told(it['to'] - it['from']))
 
-    @staticmethod
-    def labels(it):
+    def labels(self, it):
         """What may stand in a segment's mark."""
+        if it['state'] == 'running' and self.by == 'group':
+            return 'task %d, group %d' % (it['pid'], it['group']), '%d' % it['pid']
         if it['state'] == 'running':
             cookie = 'cookie %d' % it['cookie'] if it['cookie'] else 'no cookie'
             return 'task %d, %s' % (it['pid'], cookie), '%d' % it['pid']
@@ -118,18 +123,18 @@ class Run:
             return 'forced idle by cookie %d' % it['cookie'] if it['cookie'] else 'forced idle, core has no cookie', 'forced idle'
         return (it['state'],) if it['state'] == 'offline' else ()
 
-    def windows(self):
-        """When two siblings ran tasks with distinct cookies: pairs of moments, by rising time."""
-        changes = sorted((clock, -side, it['cookie']) for it in self.segments if it['state'] == 'running'
+    def windows(self, key):
+        """When two siblings ran tasks with distinct cookies, or of distinct groups: pairs of moments, by rising time."""
+        changes = sorted((clock, -side, it[key]) for it in self.segments if it['state'] == 'running'
                          for clock, side in ((it['from'], -1), (it['to'], 1)))
         running, since = {}, 0
-        for clock, side, cookie in changes:
+        for clock, side, own in changes:
             if clock > since and len(running) > 1:
                 yield since, clock
             since = max(since, clock)
-            running[cookie] = running.get(cookie, 0) + side
-            if not running[cookie]:
-                del running[cookie]
+            running[own] = running.get(own, 0) + side
+            if not running[own]:
+                del running[own]
 
 
 class Spans:
@@ -204,7 +209,9 @@ class Picture:
         groups = self.root.getElementsByTagName('g')
         self.lanes = [it for it in groups if it.getAttribute('class') == 'l']
         self.pending = [[span_of(mark) for mark in it.getElementsByTagName('rect')] for it in groups if it.getAttribute('class') == 'p']
-        self.exposed, self.behind = rects_of(groups, 'e'), rects_of(groups, 'b')
+        self.exposed, self.mixed, self.behind = rects_of(groups, 'e'), rects_of(groups, 'u'), rects_of(groups, 'b')
+        self.waiting = [[(words_of(mark), span_of(mark)) for mark in it.getElementsByTagName('rect')] for it in groups if it.getAttribute('class') == 'w']
+        self.head = ''.join(it.firstChild.data for it in self.root.getElementsByTagName('text') if it.getAttribute('class') == 'k')
         self.marks = [{(words_of(mark), span_of(mark)) for mark in it.childNodes if words_of(mark) and mark.nodeName == 'rect'} for it in self.lanes]
         self.forced = [[span_of(mark) for name in ('rect', 'path') for mark in it.getElementsByTagName(name)
                         if mark.getAttribute('fill').startswith('url(#h')] for it in self.lanes]
@@ -241,9 +248,10 @@ def need_marks(picture, run):
             raise Wrong('no hatch at: %s' % run.words(it))
         if it['pending'] and not is_shown(picture.pending[it['sibling']], begin, end):
             raise Wrong('no outline at: %s' % run.words(it))
-    for begin, end in run.windows():
-        if not is_shown(picture.exposed, run.place(begin), run.place(end)):
-            raise Wrong('not marked as exposed: %s to %s' % (told(begin), told(end)))
+    for key, marks in ('cookie', picture.exposed), ('group', picture.mixed):
+        for begin, end in run.windows(key):
+            if not is_shown(marks, run.place(begin), run.place(end)):
+                raise Wrong('not marked as side by side, by %s: %s to %s' % (key, told(begin), told(end)))
 
 
 def need_spans(marks, spans, gap, what):
@@ -274,8 +282,9 @@ def need_titles(marks, run, cpu):
 
 def need_no_false_mark(picture, run):
     """Raises Wrong where a mark shows what was not so."""
-    windows = Spans((run.place(begin), run.place(end)) for begin, end in run.windows())
-    need_spans(picture.exposed, windows, run.grain, 'exposure')
+    for key, marks in ('cookie', picture.exposed), ('group', picture.mixed):
+        windows = Spans((run.place(begin), run.place(end)) for begin, end in run.windows(key))
+        need_spans(marks, windows, run.grain, 'tasks side by side, by %s' % key)
     if not set(picture.behind) <= set(picture.exposed):
         raise Wrong('a false mark of exposure behind the lanes')
     for cpu, lane in enumerate(run.lanes):
@@ -313,8 +322,60 @@ def need_labels(lane, run, cpu):
         raise Wrong('words in no mark on s%d' % cpu)
 
 
-def compare(text, run):
-    """Raises Wrong where the picture does not show the run."""
+def told_side(run, key, words):
+    """For how long tasks ran side by side, as the head tells it."""
+    joined = []
+    for begin, end in run.windows(key):
+        if joined and joined[-1][1] == begin:
+            joined[-1][1] = end
+        else:
+            joined.append([begin, end])
+    lengths = [end - begin for begin, end in joined]
+    if not lengths:
+        return words + {'cookie': ' never exposed', 'group': ' never side by side'}[key]
+    share = sum(lengths) * 1_000 // run.total
+    return '%s%s for %s in all (%s %%), at most %s at a time' % (
+        words, {'cookie': ' exposed', 'group': ' side by side'}[key], told(sum(lengths)),
+        ('%d.%d' % divmod(share, 10)).removesuffix('.0'), told(max(lengths)))
+
+
+def need_head(picture, run):
+    """Raises Wrong where the head does not say for how long tasks ran side by side."""
+    head = told_side(run, 'cookie', 'Cookies') + '; ' + told_side(run, 'group', 'thread groups')
+    if picture.head != head:
+        raise Wrong('the head says %r, not %r' % (picture.head, head))
+
+
+def waits_of(data):
+    """How many tasks wait on each sibling in a replay of a text, from when to when."""
+    room, clock = reference.Room(reference.read(data), check=False), 0
+    waits = [[] for _ in room.sib]
+    for _, event, text in reference.read(data).steps:
+        if event[0] == 'advance':
+            for sibling in room.sib:
+                count = sum(task is not sibling.run for task in room.queued(sibling.i))
+                if count:
+                    waits[sibling.i].append((clock, clock + event[1], count))
+            clock += event[1]
+        room.apply(event, text)
+    return waits
+
+
+def need_waiting(marks, run, waits, cpu):
+    """Raises Wrong where the marks below a lane do not say how many tasks wait, or a mark tells of none."""
+    places = [(run.place(begin), run.place(end), count) for begin, end, count in waits]
+    for begin, end, count in places:
+        if not is_shown([span for _, span in marks], begin, end):
+            raise Wrong('tasks that wait on s%d are not shown, from %d to %d' % (cpu, begin, end))
+    for words, (begin, end) in marks:
+        most = max((count for first, last, count in places if first < end and begin < last or begin <= first == last <= end), default=0)
+        said = re.match(r's%d, tasks that wait(?: at most)?: ([0-9]+), ' % cpu, words)
+        if not said or int(said[1]) != most:
+            raise Wrong('%d tasks wait on s%d from %d to %d, and not: %s' % (most, cpu, begin, end, words))
+
+
+def compare(text, run, waits):
+    """Raises Wrong where the picture does not show the run. The waits are told if there are few steps."""
     need_closed(text)
     picture = Picture(text)
     if not picture.root.getAttribute('viewBox'):
@@ -327,6 +388,9 @@ def compare(text, run):
         raise Wrong('%d lanes' % len(picture.lanes))
     need_marks(picture, run)
     need_no_false_mark(picture, run)
+    need_head(picture, run)
+    for cpu, of_sibling in enumerate(waits or ()):
+        need_waiting(picture.waiting[cpu], run, of_sibling, cpu)
     for cpu, lane in enumerate(picture.lanes):
         need_labels(lane, run, cpu)
 
@@ -376,7 +440,7 @@ def main():
             most = max(most, len(picture))
             run = Run(table[1])
             segments += len(run.segments)
-            compare(picture, run)
+            compare(picture, run, waits_of(data) if data.count(b'\n') < 2_000 else None)
         except Wrong as it:
             wrong += 1
             base = runs.kept('pictures-seed%d-%d' % (a.seed, wrong))

@@ -18,18 +18,18 @@ import mutations
 import reference
 import runs
 
-HEAD = ['from', 'to', 'sibling', 'state', 'cookie', 'pending', 'forced', 'pid']
+HEAD = ['from', 'to', 'sibling', 'state', 'cookie', 'pending', 'forced', 'pid', 'group']
 
 
 def shown(room, sibling):
     """The cells of what a sibling does now, from the state on."""
     if not sibling.online:
-        return 'offline', None, False, False, None
+        return 'offline', None, False, False, None, None
     if sibling.run is not None:
-        return 'running', sibling.run.cookie, sibling.pending, False, sibling.run.pid
+        return 'running', sibling.run.cookie, sibling.pending, False, sibling.run.pid, sibling.run.tgid
     if room.queued(sibling.i):
-        return 'idle', room.core, sibling.pending, True, None
-    return 'idle', None, sibling.pending, False, None
+        return 'idle', room.core, sibling.pending, True, None, None
+    return 'idle', None, sibling.pending, False, None, None
 
 
 def segments_of(scenario):

@@ -74,6 +74,22 @@ def charges(room, left_with):
     return charged, counts_for, by_cookie
 
 
+class SideBySide:
+    """For how long tasks with distinct keys ran side by side: in all, without a break, and pair by pair."""
+
+    def __init__(self):
+        self.all = self.lasting = self.longest = 0
+        self.pairs = {}
+
+    def pass_time(self, delta, keys):
+        apart = len(keys) > 1
+        self.all += delta * apart
+        self.lasting = self.lasting + delta if apart else 0
+        self.longest = max(self.longest, self.lasting)
+        for pair in itertools.combinations(sorted(keys), 2):
+            self.pairs[pair] = self.pairs.get(pair, 0) + delta
+
+
 class Times:
     """What is told of a scenario's replay: the time of each sibling, task, cookie and pair by what it did, and the room at
     the end of it."""
@@ -81,13 +97,18 @@ class Times:
     def __init__(self, scenario):
         self.room = reference.Room(scenario, check=False)
         self.siblings = [dict.fromkeys(['ran', 'idle', 'offline', 'cookie', 'none', 'pending'], 0) for _ in self.room.sib]
-        self.tasks, self.cookies, self.left_with, self.pairs = {}, {}, {}, {}
-        self.exposed = self.lasting = self.longest = self.pending = self.total = 0
+        self.tasks, self.cookies, self.left_with = {}, {}, {}
+        self.exposed, self.mixed = SideBySide(), SideBySide()
+        # The waits of each task from a wake to its run, as they began: each with its length so far, and those that go on.
+        self.waits, self.going_on = {}, {}
+        self.pending = self.total = 0
         for _, event, text in scenario.steps:
             if event[0] == 'advance':
                 self.pass_time(event[1])
             left = leaving(self.room, event)
+            self.see_runs()
             self.room.apply(event, text)
+            self.see_wakes(event)
             if left is not None and left[0] not in self.room.tasks:
                 self.left_with[left[0]] = left[1]
         self.room.drain()
@@ -103,13 +124,26 @@ class Times:
             for times in self.tasks.setdefault(task.pid, Counter()), self.cookies.setdefault(task.cookie, Counter()):
                 times[task_doing(room, task)] += delta
         self.pending += delta * any(sibling.online and sibling.pending for sibling in room.sib)
-        running = sorted({sibling.run.cookie for sibling in room.sib if sibling.online and sibling.run is not None})
-        is_exposed = len(running) > 1
-        for pair in itertools.combinations(running, 2):
-            self.pairs[pair] = self.pairs.get(pair, 0) + delta
-        self.exposed += delta * is_exposed
-        self.lasting = self.lasting + delta if is_exposed else 0
-        self.longest = max(self.longest, self.lasting)
+        running = [sibling.run for sibling in room.sib if sibling.online and sibling.run is not None]
+        self.exposed.pass_time(delta, {task.cookie for task in running})
+        self.mixed.pass_time(delta, {task.tgid for task in running})
+        for pid in self.going_on:
+            self.waits[pid][-1] += delta
+
+    def see_runs(self):
+        """A wait is over before an entry before which the task runs."""
+        for sibling in self.room.sib:
+            if sibling.run is not None:
+                self.going_on.pop(sibling.run.pid, None)
+
+    def see_wakes(self, event):
+        """A wait begins after an entry that wakes a task or makes one."""
+        reply = self.room.entries[-1].split(': ', 1)[1].split()
+        if reply[0] == 'Woken' or reply[0] == 'Child':
+            pid = event[1] if reply[0] == 'Woken' else int(reply[1])
+            assert pid not in self.going_on, 'a task is woken only after it ran'
+            self.waits.setdefault(pid, []).append(0)
+            self.going_on[pid] = True
 
 
 def lines_of_siblings(played):
@@ -133,12 +167,24 @@ def lines_of_tasks(played, pids):
         yield 'cookie %d ran %d waited %d slept %d charged %d' % (cookie, times['ran'], times['waited'], times['slept'], by_cookie[cookie])
 
 
+def lines_of_waits(played):
+    for pid in sorted(played.waits):
+        waits = played.waits[pid]
+        assert sum(waits) <= played.tasks.get(pid, Counter())['waited'], 'a task waits for no less than from its wakes on'
+        yield 'waits %d count %d longest %d sum %d' % (pid, len(waits), max(waits), sum(waits))
+
+
+def lines_side_by_side(times, name, of_pair):
+    assert all(0 < time <= times.all for time in times.pairs.values()), 'a pair runs side by side for no longer than any do'
+    yield '%s %d longest %d' % (name, times.all, times.longest)
+    for pair in sorted(times.pairs):
+        yield '%s %d %d %s %d' % (of_pair, *pair, name, times.pairs[pair])
+
+
 def lines_of_core(played):
-    assert played.exposed <= played.pending, 'tasks with distinct cookies run side by side only where a reschedule is pending'
-    assert all(0 < time <= played.exposed for time in played.pairs.values()), 'a pair is exposed for no longer than the core is'
-    yield 'exposed %d longest %d' % (played.exposed, played.longest)
-    for pair in sorted(played.pairs):
-        yield 'pair %d %d exposed %d' % (*pair, played.pairs[pair])
+    assert played.exposed.all <= played.pending, 'tasks with distinct cookies run side by side only if a reschedule is pending'
+    yield from lines_side_by_side(played.exposed, 'exposed', 'pair')
+    yield from lines_side_by_side(played.mixed, 'mixed', 'groups')
     yield 'pending %d' % played.pending
     yield replies(played.room)
     yield 'total %d' % played.total
@@ -147,7 +193,8 @@ def lines_of_core(played):
 def summary(scenario):
     """The text of what is told of a scenario's replay."""
     played = Times(scenario)
-    lines = [*lines_of_siblings(played), *lines_of_tasks(played, {line[0] for line in scenario.tasks}), *lines_of_core(played)]
+    lines = [*lines_of_siblings(played), *lines_of_tasks(played, {line[0] for line in scenario.tasks}), *lines_of_waits(played),
+             *lines_of_core(played)]
     return ''.join(line + '\n' for line in lines).encode()
 
 

@@ -66,6 +66,7 @@ fn view(task: &Task, forced: u64) -> TaskView
 {
     TaskView {
         pid: task.spec.pid,
+        tgid: task.spec.tgid,
         cpu: task.home,
         queued: task.queued,
         cookie: task.cookie,

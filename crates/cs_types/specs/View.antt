@@ -51,6 +51,7 @@ abbrev pub task_view : RoomState → Task → TaskView
 task_view room task =
     record {
       pid = task.spec.pid;
+      tgid = task.spec.tgid;
       cpu = task.home;
       queued = task.queued;
       cookie = task.cookie;

@@ -35,6 +35,8 @@ pub struct CpuView {
 pub struct TaskView {
     /// Its number, from 1.
     pub pid: Pid,
+    /// Its thread group, by the pid of that one's leader.
+    pub tgid: Pid,
     /// The sibling on which it queues, its home.
     pub cpu: Cpu,
     /// Whether it is queued, as a running task is too, or asleep.

@@ -26,12 +26,25 @@ pub(crate) const PAGE_WIDTH: u64 = RIGHT + 134;
 pub(crate) const LANE_HEIGHT: u64 = 30;
 
 /// How far the begin of a lane is from that of the next.
-const LANE_STEP: u64 = 46;
+const LANE_STEP: u64 = 54;
 
 /// Where the row of exposure begins, and how high it is.
 pub(crate) const EXPOSED_TOP: u64 = 66;
 
 pub(crate) const EXPOSED_HEIGHT: u64 = 18;
+
+/// Where the row begins of thread groups side by side, and how high it is.
+pub(crate) const MIXED_TOP: u64 = EXPOSED_TOP + EXPOSED_HEIGHT + 6;
+
+pub(crate) const MIXED_HEIGHT: u64 = 10;
+
+/// How far below its begin a lane's row of waiting tasks begins.
+pub(crate) const WAITING_TOP: u64 = LANE_HEIGHT + 6;
+
+/// How high a mark of one waiting task is, in thousandths of a unit, and how many are drawn at most.
+pub(crate) const WAITING_HEIGHT: u64 = 1_500;
+
+pub(crate) const WAITING_MOST: u64 = 4;
 
 /// How high the marks of events are.
 pub(crate) const EVENTS_HEIGHT: u64 = 9;
@@ -43,7 +56,7 @@ pub(crate) const PENDING_RIM: u64 = 4;
 pub(crate) const PENDING_BAR: u64 = 7;
 
 /// Where the first lane begins.
-const LANES_TOP: u64 = EXPOSED_TOP + EXPOSED_HEIGHT + 14;
+const LANES_TOP: u64 = MIXED_TOP + MIXED_HEIGHT + 14;
 
 /// How high a line of the legend is.
 pub(crate) const LEGEND_STEP: u64 = 23;
@@ -67,7 +80,7 @@ impl Frame {
         LANES_TOP + u64::from(cpu) * LANE_STEP
     }
 
-    /// How high the row of exposure and all lanes are.
+    /// How high the rows above the lanes and all lanes are.
     pub(crate) fn lanes_height(self) -> u64
         ensures { result < 2 ^ 20 }
     {

@@ -1,27 +1,27 @@
 //! What is too narrow for marks of its own, gathered for one.
 
+use crate::shades::Shades;
 use crate::span::Span;
-use cs_types::Cookie;
 use run_segments::Segment;
 use run_times::Doing;
 
-/// Which cookies there were.
+/// Which cookies, or which thread groups, there were.
 #[derive(Clone, Copy)]
-pub(crate) enum Cookies {
+pub(crate) enum Keys {
     /// None was looked at.
     Unknown,
     /// This one alone, 0 for none.
-    One(Cookie),
+    One(u64),
     /// Several.
     Several,
 }
 
-/// For how long something was so, and with which cookies.
+/// For how long something was so, and with which cookies or thread groups.
 #[derive(Clone, Copy)]
 pub(crate) struct Part {
     /// In ns.
     pub time: u64,
-    pub cookies: Cookies,
+    pub keys: Keys,
 }
 
 /// Segments of one lane that follow one another, at least one, and are drawn as one mark.
@@ -41,13 +41,13 @@ pub(crate) struct Gathered {
     pub pending: u64,
 }
 
-impl Cookies {
-    fn and(self, cookie: Cookie) -> Cookies {
+impl Keys {
+    fn and(self, key: u64) -> Keys {
         match self {
-            Cookies::Unknown => Cookies::One(cookie),
-            Cookies::One(other) if other == cookie => self,
-            Cookies::One(_) => Cookies::Several,
-            Cookies::Several => Cookies::Several,
+            Keys::Unknown => Keys::One(key),
+            Keys::One(other) if other == key => self,
+            Keys::One(_) => Keys::Several,
+            Keys::Several => Keys::Several,
         }
     }
 }
@@ -56,19 +56,19 @@ impl Part {
     fn none() -> Part {
         Part {
             time: 0,
-            cookies: Cookies::Unknown,
+            keys: Keys::Unknown,
         }
     }
 
-    fn add(&mut self, time: u64, cookie: Cookie) {
+    fn add(&mut self, time: u64, key: u64) {
         self.time = self.time.saturating_add(time);
-        self.cookies = self.cookies.and(cookie);
+        self.keys = self.keys.and(key);
     }
 }
 
 impl Gathered {
     /// What one segment comes to.
-    pub(crate) fn of(segment: &Segment) -> Gathered {
+    pub(crate) fn of(segment: &Segment, shades: &Shades) -> Gathered {
         let mut gathered = Gathered {
             first: *segment,
             span: Span::of_segment(segment),
@@ -78,12 +78,12 @@ impl Gathered {
             offline: 0,
             pending: 0,
         };
-        gathered.add(segment);
+        gathered.add(segment, shades);
         gathered
     }
 
     /// Takes in the next segment of the lane.
-    pub(crate) fn add(&mut self, segment: &Segment) {
+    pub(crate) fn add(&mut self, segment: &Segment, shades: &Shades) {
         let span = Span::of_segment(segment);
         let time = span.length();
         self.span = self.span.up_to(span);
@@ -93,7 +93,7 @@ impl Gathered {
         }
         match segment.doing {
             Doing::Offline => self.offline = self.offline.saturating_add(time),
-            Doing::Runs(cookie) => self.ran.add(time, cookie),
+            Doing::Runs(_) => self.ran.add(time, shades.key(segment)),
             Doing::Idles => {}
             Doing::ForcedIdle(cookie) => self.forced.add(time, cookie),
         }

@@ -9,12 +9,13 @@ use crate::scale::Scale;
 use cs_outside::{Failed, Sink};
 use run_segments::{RunSegments, Window};
 
-/// How marks are drawn, by their classes: b behind the lanes, e exposed, p and q pending, t events, l lanes, m and s labels,
-/// i idle, x offline, f frames, a the axis, n names, r shares, h the head. A mark of exposure has an outline of its own
+/// How marks are drawn, by their classes: b behind the lanes, e exposed, u thread groups side by side, w waiting, p and q pending, t events, l lanes, m and s labels,
+/// i idle, x offline, f frames, a the axis, n names, r shares, h and k the head. A mark of exposure has an outline of its own
 /// colour, so that a short one is orange too.
 const STYLE: &str = "<style>\n\
 text{font:12px sans-serif;fill:#222}\n\
 .h{font-size:17px;font-weight:bold}\n\
+.k{font-size:13px;font-weight:bold}\n\
 .n{font-size:13px;font-weight:bold;text-anchor:end}\n\
 .r{font-size:10px;text-anchor:start}\n\
 .m{text-anchor:middle;pointer-events:none;paint-order:stroke;stroke:#fff;stroke-width:3px}\n\
@@ -25,6 +26,8 @@ text{font:12px sans-serif;fill:#222}\n\
 .x{fill:none;stroke:#777;stroke-width:.7;pointer-events:none}\n\
 .b{fill:#d55e00;fill-opacity:.13}\n\
 .e{fill:#d55e00;stroke:#d55e00;stroke-width:.6}\n\
+.u{fill:#6b4c9a;stroke:#6b4c9a;stroke-width:.6}\n\
+.w{fill:#444;stroke:none}\n\
 .p{fill:none;stroke:#000;stroke-width:1.6;stroke-dasharray:5 3;pointer-events:none}\n\
 .q{fill:#000;stroke:none}\n\
 .t{fill:#444}\n\
@@ -34,13 +37,22 @@ text{font:12px sans-serif;fill:#222}\n\
 .g{stroke-opacity:1}\n\
 </style>\n";
 
-/// For how long the core was exposed in all, in ns.
-fn exposed_time(windows: &[Window]) -> u64 {
+/// How long these are in all, in ns.
+fn time_of(windows: &[Window]) -> u64 {
     let mut time: u64 = 0;
     for window in windows {
         time = time.saturating_add(window.to.saturating_sub(window.from));
     }
     time
+}
+
+/// How long the longest of these is, in ns, 0 if there is none.
+fn longest_of(windows: &[Window]) -> u64 {
+    let mut longest: u64 = 0;
+    for window in windows {
+        longest = longest.max(window.to.saturating_sub(window.from));
+    }
+    longest
 }
 
 /// Writes the begin of a page of this height: how marks are drawn.
@@ -72,22 +84,31 @@ pub(crate) fn write_begin<K: Sink>(sink: &mut K, height: u64) -> Result<(), Fail
     )
 }
 
-/// Writes for how long the core was exposed in all.
-fn write_exposed<K: Sink>(sink: &mut K, scale: Scale, time: u64) -> Result<(), Failed>
+/// Writes for how long tasks that are told apart ran side by side, after these words, or the other words if they never did.
+fn write_side<K: Sink>(
+    sink: &mut K,
+    scale: Scale,
+    windows: &[Window],
+    words: &str,
+    never: &str,
+) -> Result<(), Failed>
     ensures faultless { OnOk result (K.faults sink.new ≡ K.faults sink.old) }
     ensures failed { OnErr result (Rose (K.faults sink.old) (K.faults sink.new)) }
 {
+    let time = time_of(windows);
     if time == 0 {
-        return write_pieces(sink, &[Piece::Text(", never exposed")]);
+        return write_pieces(sink, &[Piece::Text(never)]);
     }
     write_pieces(
         sink,
         &[
-            Piece::Text(", exposed for "),
+            Piece::Text(words),
             Piece::Time(time),
             Piece::Text(" in all ("),
             Piece::Share(scale.share(time)),
-            Piece::Text(" %)"),
+            Piece::Text(" %), at most "),
+            Piece::Time(longest_of(windows)),
+            Piece::Text(" at a time"),
         ],
     )
 }
@@ -107,20 +128,36 @@ pub(crate) fn write_head<K: Sink>(
         &[
             Piece::Text("<text class=\"h\" x=\""),
             left,
-            Piece::Text("\" y=\"26\">"),
+            Piece::Text("\" y=\"22\">"),
             Piece::Number(u64::from(run.siblings())),
             Piece::Text(" siblings of one core over "),
             Piece::Time(run.total()),
+            Piece::Text("</text>\n<text class=\"k\" x=\""),
+            left,
+            Piece::Text("\" y=\"40\">"),
         ],
     )?;
-    write_exposed(sink, scale, exposed_time(run.windows()))?;
+    write_side(
+        sink,
+        scale,
+        run.exposed(),
+        "Cookies exposed for ",
+        "Cookies never exposed",
+    )?;
+    write_side(
+        sink,
+        scale,
+        run.mixed(),
+        "; thread groups side by side for ",
+        "; thread groups never side by side",
+    )?;
     write_pieces(
         sink,
         &[
             Piece::Text("</text>\n<text x=\""),
             left,
             Piece::Text(
-                "\" y=\"48\">Each lane is a sibling, a hardware thread of the core. Tasks with distinct cookies",
+                "\" y=\"57\">Each lane is a sibling, a hardware thread of the core. Tasks with distinct cookies",
             ),
             Piece::Text(
                 " distrust each other and must not run at once: a sibling that has only others to run is forced idle.</text>\n",

@@ -7,11 +7,12 @@ ghost use Rattle.cs_outside.specs.Device.{Rose};
 use crate::frame::LANE_HEIGHT;
 use crate::piece::{Piece, write_pieces};
 use crate::scale::{Strip, UNIT};
+use crate::shades::Shades;
 use cs_outside::{Failed, Sink};
 use cs_types::{Cookie, Pid};
 use itoa::Buffer;
 use run_segments::Segment;
-use run_times::Doing;
+use run_times::{By, Doing};
 
 /// About how wide a letter of words is in a wide font, in thousandths of a unit.
 const LETTER: u64 = 6_200;
@@ -33,6 +34,8 @@ const UPRIGHT: u64 = 12 * UNIT;
 enum Label {
     /// The task and its cookie.
     Task(Pid, Cookie),
+    /// The task and its thread group.
+    Member(Pid, u64),
     /// The task alone.
     Pid(Pid),
     /// The task alone, in small type.
@@ -62,6 +65,9 @@ impl Label {
             Label::Task(pid, 0) => MARGIN + 16 * LETTER + digits(u64::from(pid)) * DIGIT,
             Label::Task(pid, cookie) => {
                 MARGIN + 14 * LETTER + (digits(u64::from(pid)) + digits(cookie)) * DIGIT
+            }
+            Label::Member(pid, group) => {
+                MARGIN + 13 * LETTER + (digits(u64::from(pid)) + digits(group)) * DIGIT
             }
             Label::Pid(pid) => MARGIN + digits(u64::from(pid)) * DIGIT,
             Label::SmallPid(pid) => MARGIN + digits(u64::from(pid)) * SMALL_DIGIT,
@@ -94,13 +100,16 @@ fn first_fitting(width: u64, labels: &[Label]) -> Label {
 }
 
 /// The label of a segment whose mark has this width, in thousandths of a unit.
-fn label_of(segment: &Segment, width: u64) -> Label {
+fn label_of(by: By, segment: &Segment, width: u64) -> Label {
     let pid = segment.pid;
     match segment.doing {
         Doing::Runs(cookie) => first_fitting(
             width,
             &[
-                Label::Task(pid, cookie),
+                match by {
+                    By::Cookie => Label::Task(pid, cookie),
+                    By::Group => Label::Member(pid, segment.group),
+                },
                 Label::Pid(pid),
                 Label::SmallPid(pid),
                 Label::UprightPid(pid),
@@ -135,6 +144,15 @@ fn write_words<K: Sink>(sink: &mut K, label: Label) -> Result<(), Failed>
                 } else {
                     Piece::Number(cookie)
                 },
+            ],
+        ),
+        Label::Member(pid, group) => write_pieces(
+            sink,
+            &[
+                Piece::Text("task "),
+                Piece::Number(u64::from(pid)),
+                Piece::Text(", group "),
+                Piece::Number(group),
             ],
         ),
         Label::Pid(pid) | Label::SmallPid(pid) | Label::UprightPid(pid) => {
@@ -188,13 +206,14 @@ fn write_begin<K: Sink>(sink: &mut K, label: Label, strip: Strip) -> Result<(), 
 /// Writes the label of a segment whose mark stands here.
 pub(crate) fn write_label<K: Sink>(
     sink: &mut K,
+    shades: &Shades,
     segment: &Segment,
     strip: Strip,
 ) -> Result<(), Failed>
     ensures faultless { OnOk result (K.faults sink.new ≡ K.faults sink.old) }
     ensures failed { OnErr result (Rose (K.faults sink.old) (K.faults sink.new)) }
 {
-    let label = label_of(segment, strip.width);
+    let label = label_of(shades.by, segment, strip.width);
     if let Label::Nothing = label {
         return Ok(());
     }

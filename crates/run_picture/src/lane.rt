@@ -8,20 +8,21 @@ use crate::gathered::Gathered;
 use crate::mark::{write_gathered, write_segment};
 use crate::piece::{Piece, write_pieces};
 use crate::scale::Scale;
+use crate::shades::Shades;
 use crate::span::Span;
 use cs_outside::{Failed, Sink};
 use cs_types::Cpu;
 use run_segments::{RunSegments, Segment};
 
 /// What waits for the next segment, with it.
-fn with_next(waiting: Option<Gathered>, segment: &Segment) -> Gathered {
+fn with_next(waiting: Option<Gathered>, segment: &Segment, shades: &Shades) -> Gathered {
     match waiting {
         Some(gathered) => {
             let mut gathered = gathered;
-            gathered.add(segment);
+            gathered.add(segment, shades);
             gathered
         }
-        None => Gathered::of(segment),
+        None => Gathered::of(segment, shades),
     }
 }
 
@@ -29,13 +30,14 @@ fn with_next(waiting: Option<Gathered>, segment: &Segment) -> Gathered {
 fn write_waiting<K: Sink>(
     sink: &mut K,
     scale: Scale,
+    shades: &Shades,
     waiting: Option<Gathered>,
 ) -> Result<(), Failed>
     ensures faultless { OnOk result (K.faults sink.new ≡ K.faults sink.old) }
     ensures failed { OnErr result (Rose (K.faults sink.old) (K.faults sink.new)) }
 {
     match waiting {
-        Some(gathered) => write_gathered(sink, scale, &gathered),
+        Some(gathered) => write_gathered(sink, scale, shades, &gathered),
         None => Ok(()),
     }
 }
@@ -45,6 +47,7 @@ fn write_waiting<K: Sink>(
 fn write_next<K: Sink>(
     sink: &mut K,
     scale: Scale,
+    shades: &Shades,
     waiting: Option<Gathered>,
     segment: &Segment,
 ) -> Result<Option<Gathered>, Failed>
@@ -52,13 +55,13 @@ fn write_next<K: Sink>(
     ensures failed { OnErr result (Rose (K.faults sink.old) (K.faults sink.new)) }
 {
     if scale.is_wide(Span::of_segment(segment)) {
-        write_waiting(sink, scale, waiting)?;
-        write_segment(sink, scale, segment)?;
+        write_waiting(sink, scale, shades, waiting)?;
+        write_segment(sink, scale, shades, segment)?;
         return Ok(None);
     }
-    let gathered = with_next(waiting, segment);
+    let gathered = with_next(waiting, segment, shades);
     if scale.is_wide(gathered.span) {
-        write_gathered(sink, scale, &gathered)?;
+        write_gathered(sink, scale, shades, &gathered)?;
         return Ok(None);
     }
     Ok(Some(gathered))
@@ -68,6 +71,7 @@ fn write_next<K: Sink>(
 fn write_marks<K: Sink>(
     sink: &mut K,
     scale: Scale,
+    shades: &Shades,
     segments: &[Segment],
     cpu: Cpu,
 ) -> Result<(), Failed>
@@ -77,18 +81,18 @@ fn write_marks<K: Sink>(
     let mut waiting = None;
     for segment in segments {
         if segment.cpu == cpu {
-            waiting = write_next(sink, scale, waiting, segment)?;
+            waiting = write_next(sink, scale, shades, waiting, segment)?;
         }
     }
-    write_waiting(sink, scale, waiting)
+    write_waiting(sink, scale, shades, waiting)
 }
 
 /// All that a sibling did. `None` where it has no segment.
-fn all_of(segments: &[Segment], cpu: Cpu) -> Option<Gathered> {
+fn all_of(segments: &[Segment], shades: &Shades, cpu: Cpu) -> Option<Gathered> {
     let mut all = None;
     for segment in segments {
         if segment.cpu == cpu {
-            all = Some(with_next(all, segment));
+            all = Some(with_next(all, segment, shades));
         }
     }
     all
@@ -137,6 +141,7 @@ fn write_shares<K: Sink>(sink: &mut K, scale: Scale, all: &Gathered) -> Result<(
 pub(crate) fn write_lane<K: Sink>(
     sink: &mut K,
     scale: Scale,
+    shades: &Shades,
     run: &RunSegments,
     cpu: Cpu,
 ) -> Result<(), Failed>
@@ -162,8 +167,8 @@ pub(crate) fn write_lane<K: Sink>(
             Piece::Text("\"/>\n"),
         ],
     )?;
-    write_marks(sink, scale, run.segments(), cpu)?;
-    if let Some(all) = all_of(run.segments(), cpu) {
+    write_marks(sink, scale, shades, run.segments(), cpu)?;
+    if let Some(all) = all_of(run.segments(), shades, cpu) {
         write_shares(sink, scale, &all)?;
     }
     write_pieces(sink, &[Piece::Text("</g>\n")])

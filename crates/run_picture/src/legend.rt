@@ -1,4 +1,4 @@
-//! The legend: the look of each cookie, and what each mark means, in words. Nothing stands beside the words, which may be
+//! The legend: the look of each cookie or thread group, and what each mark means, in words. Nothing stands beside the words, which may be
 //! as wide as the font makes them.
 
 ghost use Rattle.std.specs.Prelude.{◌≡◌, ◌^◌, ◌<◌, ◌≤◌, OnOk, OnErr};
@@ -8,21 +8,13 @@ use crate::frame::{Frame, LEFT, LEGEND_STEP};
 use crate::look::{Hatch, Look};
 use crate::paint::Paint;
 use crate::piece::{Piece, write_pieces};
+use crate::shades::{COLUMNS, MOST_LISTED, Shades};
 use cs_outside::{Failed, Sink};
 use cs_types::Cookie;
-use run_segments::Segment;
-use run_times::Doing;
+use run_times::By;
 
-/// In how many columns the looks of the cookies stand, and how wide one is.
-const COLUMNS: u64 = 6;
-
+/// How wide a column is of the looks of the cookies or groups.
 const COLUMN_WIDTH: u64 = 200;
-
-/// How many lines they take at most.
-const COOKIE_LINES: u64 = 3;
-
-/// How many cookies the legend can show.
-const COOKIES: u64 = COLUMNS * COOKIE_LINES;
 
 /// What a line of the legend explains.
 #[derive(Clone, Copy)]
@@ -33,19 +25,23 @@ enum Entry {
     Offline,
     Pending,
     Exposed,
+    Mixed,
+    Waiting,
     Events,
     Several,
     Pointer,
 }
 
 /// The entries, from the first line on.
-const ENTRIES: [Entry; 9] = [
+const ENTRIES: [Entry; 11] = [
     Entry::Runs,
     Entry::Forced,
     Entry::Idles,
     Entry::Offline,
     Entry::Pending,
     Entry::Exposed,
+    Entry::Mixed,
+    Entry::Waiting,
     Entry::Events,
     Entry::Several,
     Entry::Pointer,
@@ -54,19 +50,16 @@ const ENTRIES: [Entry; 9] = [
 /// How many lines they take.
 const ENTRY_LINES: u64 = ENTRIES.len() as u64;
 
-/// The cookies that the legend lists.
-#[derive(Clone, Copy)]
-pub(crate) struct Listed {
-    /// The least that the run shows, by rising cookie, and 0 after the last.
-    cookies: [Cookie; COOKIES as usize],
-}
-
 impl Entry {
     /// What is said of the mark.
-    fn words(self) -> &'static str {
+    fn words(self, by: By) -> &'static str {
         match self {
-            Entry::Runs =>
-                "A task without a cookie runs. Tasks with a cookie are drawn in the look of their cookie, as listed above.",
+            Entry::Runs => match by {
+                By::Cookie =>
+                    "A task without a cookie runs. Tasks with a cookie are drawn in the look of their cookie, as listed above.",
+                By::Group =>
+                    "A task runs. No task has a cookie, so each is drawn in the look of its thread group, as listed above.",
+            },
             Entry::Forced =>
                 "Forced idle: a task waits on this sibling, but has not the cookie that the core is given to. The hatch has the colour of that cookie, grey for none.",
             Entry::Idles => "Idle: no task waits on this sibling.",
@@ -75,6 +68,10 @@ impl Entry {
                 "Reschedule pending: the sibling has been told to pick anew, and until it does it goes on with what it did.",
             Entry::Exposed =>
                 "Exposed: tasks with distinct cookies run side by side on two siblings, in the band below it. A lower mark: on and off, as high as its share of the time.",
+            Entry::Mixed =>
+                "Groups side by side: tasks of distinct thread groups run on two siblings, whatever their cookies. It is drawn as exposure is.",
+            Entry::Waiting =>
+                "Tasks wait on the sibling above: one, two, three, and four or more. Rest the pointer on the mark to read how many.",
             Entry::Events =>
                 "Something happened that takes no time: a task woke, a sibling picked, a cookie changed, and the like.",
             Entry::Several =>
@@ -96,6 +93,10 @@ impl Entry {
             )],
             Entry::Pending => &[Piece::Text("<rect class=\"p\" width=\"44\" height=\"16\"/>")],
             Entry::Exposed => &[Piece::Text("<rect class=\"e\" width=\"44\" height=\"16\"/>")],
+            Entry::Mixed => &[Piece::Text("<rect class=\"u\" width=\"44\" height=\"16\"/>")],
+            Entry::Waiting => &[Piece::Text(
+                "<path class=\"w\" d=\"M0 5h11v1.5h-11zM11 5h11v3h-11zM22 5h11v4.5h-11zM33 5h11v6h-11z\"/>",
+            )],
             Entry::Events => &[Piece::Text(
                 "<path class=\"t\" d=\"M10 4h1v8h-1zM22 4h1v8h-1zM34 4h1v8h-1z\"/>",
             )],
@@ -107,57 +108,7 @@ impl Entry {
     }
 }
 
-/// The cookie that a segment shows, 0 for none.
-fn cookie_of(segment: &Segment) -> Cookie {
-    match segment.doing {
-        Doing::Runs(cookie) => cookie,
-        Doing::ForcedIdle(cookie) => cookie,
-        Doing::Offline | Doing::Idles => 0,
-    }
-}
-
-/// The least cookie above this one that a segment shows. `None` where there is none.
-fn cookie_above(segments: &[Segment], above: Cookie) -> Option<Cookie> {
-    let mut least = None;
-    for segment in segments {
-        let cookie = cookie_of(segment);
-        if cookie > above {
-            least = match least {
-                Some(other) if other < cookie => Some(other),
-                _ => Some(cookie),
-            };
-        }
-    }
-    least
-}
-
-impl Listed {
-    /// The cookies of these segments, as many as the legend can show.
-    pub(crate) fn of(segments: &[Segment]) -> Listed {
-        let mut cookies = [0; COOKIES as usize];
-        let mut last = 0;
-        for number in 0..COOKIES {
-            let Some(cookie) = cookie_above(segments, last) else {
-                return Listed { cookies };
-            };
-            cookies[number as usize] = cookie;
-            last = cookie;
-        }
-        Listed { cookies }
-    }
-
-    /// How many lines they take.
-    fn lines(&self) -> u64
-        ensures { result ≤ 3 }
-    {
-        for line in 0..COOKIE_LINES {
-            if self.cookies[(line * COLUMNS) as usize] == 0 {
-                return line;
-            }
-        }
-        COOKIE_LINES
-    }
-
+impl Shades {
     /// How many lines the legend has.
     pub(crate) fn legend_lines(&self) -> u64
         ensures { result < 2 ^ 32 }
@@ -184,7 +135,7 @@ fn write_place<K: Sink>(sink: &mut K, left: u64, top: u64) -> Result<(), Failed>
 }
 
 /// Writes what each mark means.
-fn write_entries<K: Sink>(sink: &mut K, top: u64) -> Result<(), Failed>
+fn write_entries<K: Sink>(sink: &mut K, top: u64, by: By) -> Result<(), Failed>
     requires { top < 2 ^ 32 }
     ensures faultless { OnOk result (K.faults sink.new ≡ K.faults sink.old) }
     ensures failed { OnErr result (Rose (K.faults sink.old) (K.faults sink.new)) }
@@ -197,7 +148,7 @@ fn write_entries<K: Sink>(sink: &mut K, top: u64) -> Result<(), Failed>
             sink,
             &[
                 Piece::Text("<text x=\"54\" y=\"12\">"),
-                Piece::Text(entry.words()),
+                Piece::Text(entry.words(by)),
                 Piece::Text("</text></g>\n"),
             ],
         )?;
@@ -206,14 +157,10 @@ fn write_entries<K: Sink>(sink: &mut K, top: u64) -> Result<(), Failed>
 }
 
 /// Writes the look of a cookie, and the hatch under it.
-fn write_cookie<K: Sink>(sink: &mut K, top: u64, number: u64, cookie: Cookie) -> Result<(), Failed>
-    requires top { top < 2 ^ 32 }
-    requires number { number < 2 ^ 32 }
+fn write_cookie<K: Sink>(sink: &mut K, cookie: Cookie) -> Result<(), Failed>
     ensures faultless { OnOk result (K.faults sink.new ≡ K.faults sink.old) }
     ensures failed { OnErr result (Rose (K.faults sink.old) (K.faults sink.new)) }
 {
-    let left = LEFT + number % COLUMNS * COLUMN_WIDTH;
-    write_place(sink, left, top + number / COLUMNS * LEGEND_STEP)?;
     write_pieces(
         sink,
         &[
@@ -228,18 +175,40 @@ fn write_cookie<K: Sink>(sink: &mut K, top: u64, number: u64, cookie: Cookie) ->
     )
 }
 
-/// Writes the looks of the listed cookies.
-fn write_cookies<K: Sink>(sink: &mut K, top: u64, listed: &Listed) -> Result<(), Failed>
+/// Writes the look of a thread group.
+fn write_group<K: Sink>(sink: &mut K, look: Look, group: u64) -> Result<(), Failed>
+    ensures faultless { OnOk result (K.faults sink.new ≡ K.faults sink.old) }
+    ensures failed { OnErr result (Rose (K.faults sink.old) (K.faults sink.new)) }
+{
+    write_pieces(
+        sink,
+        &[
+            Piece::Text("<rect width=\"44\" height=\"16\""),
+            Piece::Fill(Paint::Runs(look)),
+            Piece::Text("/><text x=\"54\" y=\"12\">thread group "),
+            Piece::Number(group),
+            Piece::Text("</text></g>\n"),
+        ],
+    )
+}
+
+/// Writes the looks of what is listed.
+fn write_listed<K: Sink>(sink: &mut K, top: u64, shades: &Shades) -> Result<(), Failed>
     requires { top < 2 ^ 32 }
     ensures faultless { OnOk result (K.faults sink.new ≡ K.faults sink.old) }
     ensures failed { OnErr result (Rose (K.faults sink.old) (K.faults sink.new)) }
 {
-    for number in 0..COOKIES {
-        let cookie = listed.cookies[number as usize];
-        if cookie == 0 {
+    for number in 0..MOST_LISTED {
+        let key = shades.listed[number as usize];
+        if key == 0 {
             return Ok(());
         }
-        write_cookie(sink, top, number, cookie)?;
+        let left = LEFT + number % COLUMNS * COLUMN_WIDTH;
+        write_place(sink, left, top + number / COLUMNS * LEGEND_STEP)?;
+        match shades.by {
+            By::Cookie => write_cookie(sink, key)?,
+            By::Group => write_group(sink, shades.look(key), key)?,
+        }
     }
     Ok(())
 }
@@ -248,12 +217,12 @@ fn write_cookies<K: Sink>(sink: &mut K, top: u64, listed: &Listed) -> Result<(),
 pub(crate) fn write_legend<K: Sink>(
     sink: &mut K,
     siblings: u8,
-    listed: &Listed,
+    shades: &Shades,
 ) -> Result<(), Failed>
     ensures faultless { OnOk result (K.faults sink.new ≡ K.faults sink.old) }
     ensures failed { OnErr result (Rose (K.faults sink.old) (K.faults sink.new)) }
 {
     let top = Frame::of(siblings).legend();
-    write_cookies(sink, top, listed)?;
-    write_entries(sink, top + listed.lines() * LEGEND_STEP)
+    write_listed(sink, top, shades)?;
+    write_entries(sink, top + shades.lines() * LEGEND_STEP, shades.by)
 }

@@ -16,6 +16,7 @@ mod paint;
 mod piece;
 mod row;
 mod scale;
+mod shades;
 mod span;
 mod tiles;
 mod title;

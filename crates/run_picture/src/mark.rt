@@ -6,10 +6,11 @@ ghost use Rattle.cs_outside.specs.Device.{Rose};
 use crate::frame::LANE_HEIGHT;
 use crate::gathered::Gathered;
 use crate::label::write_label;
-use crate::look::{Hatch, Look};
+use crate::look::Hatch;
 use crate::paint::Paint;
 use crate::piece::{Piece, write_pieces};
 use crate::scale::{Scale, Strip, UNIT, part_of};
+use crate::shades::Shades;
 use crate::span::Span;
 use crate::title::{write_gathered_title, write_title};
 use cs_outside::{Failed, Sink};
@@ -33,10 +34,10 @@ struct Area {
 }
 
 /// What one segment is filled with.
-fn paint_of(doing: Doing) -> Paint {
-    match doing {
+fn paint_of(segment: &Segment, shades: &Shades) -> Paint {
+    match segment.doing {
         Doing::Offline => Paint::Offline,
-        Doing::Runs(cookie) => Paint::Runs(Look::of(cookie)),
+        Doing::Runs(_) => Paint::Runs(shades.look(shades.key(segment))),
         Doing::Idles => Paint::Clear,
         Doing::ForcedIdle(cookie) => Paint::Forced(Hatch::of(cookie)),
     }
@@ -108,6 +109,7 @@ fn write_cross<K: Sink>(sink: &mut K, strip: Strip) -> Result<(), Failed>
 pub(crate) fn write_segment<K: Sink>(
     sink: &mut K,
     scale: Scale,
+    shades: &Shades,
     segment: &Segment,
 ) -> Result<(), Failed>
     ensures faultless { OnOk result (K.faults sink.new ≡ K.faults sink.old) }
@@ -117,13 +119,13 @@ pub(crate) fn write_segment<K: Sink>(
     if strip.width == 0 {
         return Ok(());
     }
-    write_rect(sink, strip, paint_of(segment.doing))?;
+    write_rect(sink, strip, paint_of(segment, shades))?;
     write_title(sink, segment)?;
     write_pieces(sink, &[Piece::Text("</rect>\n")])?;
     if let Doing::Offline = segment.doing {
         write_cross(sink, strip)?;
     }
-    write_label(sink, segment, strip)
+    write_label(sink, shades, segment, strip)
 }
 
 /// Writes a part of a mark of several segments, where it has a height.
@@ -202,7 +204,12 @@ fn shares_of(gathered: &Gathered) -> Shares {
 
 /// Writes the parts of a mark of several segments: from the top how much of the time the sibling was forced idle and
 /// offline, and from the foot how much of it a task ran.
-fn write_parts<K: Sink>(sink: &mut K, strip: Strip, gathered: &Gathered) -> Result<(), Failed>
+fn write_parts<K: Sink>(
+    sink: &mut K,
+    shades: &Shades,
+    strip: Strip,
+    gathered: &Gathered,
+) -> Result<(), Failed>
     ensures faultless { OnOk result (K.faults sink.new ≡ K.faults sink.old) }
     ensures failed { OnErr result (Rose (K.faults sink.old) (K.faults sink.new)) }
 {
@@ -218,7 +225,7 @@ fn write_parts<K: Sink>(sink: &mut K, strip: Strip, gathered: &Gathered) -> Resu
         top: HIGH.saturating_sub(shares.ran),
         height: shares.ran,
     };
-    write_part(sink, ran, Paint::of_ran(gathered.ran.cookies))?;
+    write_part(sink, ran, Paint::of_ran(gathered.ran.keys, shades))?;
     let offline = Area {
         strip,
         top: shares.forced,
@@ -230,11 +237,16 @@ fn write_parts<K: Sink>(sink: &mut K, strip: Strip, gathered: &Gathered) -> Resu
         top: 0,
         height: shares.forced,
     };
-    write_part(sink, forced, Paint::of_forced(gathered.forced.cookies))
+    write_part(sink, forced, Paint::of_forced(gathered.forced.keys))
 }
 
 /// Writes the mark of several segments. What is so narrow that nothing of it would show gets none.
-fn write_column<K: Sink>(sink: &mut K, scale: Scale, gathered: &Gathered) -> Result<(), Failed>
+fn write_column<K: Sink>(
+    sink: &mut K,
+    scale: Scale,
+    shades: &Shades,
+    gathered: &Gathered,
+) -> Result<(), Failed>
     ensures faultless { OnOk result (K.faults sink.new ≡ K.faults sink.old) }
     ensures failed { OnErr result (Rose (K.faults sink.old) (K.faults sink.new)) }
 {
@@ -244,7 +256,7 @@ fn write_column<K: Sink>(sink: &mut K, scale: Scale, gathered: &Gathered) -> Res
     }
     write_pieces(sink, &[Piece::Text("<g>")])?;
     write_gathered_title(sink, gathered)?;
-    write_parts(sink, strip, gathered)?;
+    write_parts(sink, shades, strip, gathered)?;
     write_pieces(sink, &[Piece::Text("</g>\n")])
 }
 
@@ -252,14 +264,15 @@ fn write_column<K: Sink>(sink: &mut K, scale: Scale, gathered: &Gathered) -> Res
 pub(crate) fn write_gathered<K: Sink>(
     sink: &mut K,
     scale: Scale,
+    shades: &Shades,
     gathered: &Gathered,
 ) -> Result<(), Failed>
     ensures faultless { OnOk result (K.faults sink.new ≡ K.faults sink.old) }
     ensures failed { OnErr result (Rose (K.faults sink.old) (K.faults sink.new)) }
 {
     if gathered.count == 1 {
-        write_segment(sink, scale, &gathered.first)
+        write_segment(sink, scale, shades, &gathered.first)
     } else {
-        write_column(sink, scale, gathered)
+        write_column(sink, scale, shades, gathered)
     }
 }

@@ -7,10 +7,11 @@ use crate::axis::write_axis;
 use crate::frame::{Frame, LEFT};
 use crate::head::{write_begin, write_head};
 use crate::lane::write_lane;
-use crate::legend::{Listed, write_legend};
+use crate::legend::write_legend;
 use crate::piece::{Piece, write_pieces};
-use crate::row::{write_exposure, write_moments, write_pending};
+use crate::row::{write_moments, write_pending, write_side_by_side, write_waiting};
 use crate::scale::Scale;
+use crate::shades::Shades;
 use crate::tiles::write_tiles;
 use cs_outside::{Failed, Sink};
 use run_segments::RunSegments;
@@ -19,12 +20,17 @@ use run_segments::RunSegments;
 const EMPTY_HEIGHT: u64 = 80;
 
 /// Writes the lanes of all siblings.
-fn write_lanes<K: Sink>(sink: &mut K, scale: Scale, run: &RunSegments) -> Result<(), Failed>
+fn write_lanes<K: Sink>(
+    sink: &mut K,
+    scale: Scale,
+    shades: &Shades,
+    run: &RunSegments,
+) -> Result<(), Failed>
     ensures faultless { OnOk result (K.faults sink.new ≡ K.faults sink.old) }
     ensures failed { OnErr result (Rose (K.faults sink.old) (K.faults sink.new)) }
 {
     for cpu in 0..run.siblings() {
-        write_lane(sink, scale, run, cpu)?;
+        write_lane(sink, scale, shades, run, cpu)?;
     }
     Ok(())
 }
@@ -52,8 +58,9 @@ fn write_empty<K: Sink>(sink: &mut K, run: &RunSegments) -> Result<(), Failed>
 }
 
 /// Writes the picture of a run: an SVG without scripts and without references to anything else. Each sibling has a lane
-/// over time. Above the lanes it shows when tasks with distinct cookies ran side by side, and below them when something
-/// happened at which no time passes. A legend says what each mark means. What is too narrow to be seen is joined, so the
+/// over time, and below it how many tasks wait there. Above the lanes it shows when tasks with distinct cookies, and tasks of
+/// distinct thread groups, ran side by side, and below them when something happened at which no time passes. Tasks are
+/// coloured by their cookies, or by their thread groups if no task has a cookie. A legend says what each mark means. What is too narrow to be seen is joined, so the
 /// size of a picture has a bound, however long the run is. It takes no memory. At an `Err` the sink has failed.
 pub fn picture<K: Sink>(run: &RunSegments, sink: &mut K) -> Result<(), Failed>
     ensures faultless { OnOk result (K.faults sink.new ≡ K.faults sink.old) }
@@ -63,18 +70,19 @@ pub fn picture<K: Sink>(run: &RunSegments, sink: &mut K) -> Result<(), Failed>
         return write_empty(sink, run);
     }
     let scale = Scale::of(run.total(), run.siblings());
-    let listed = Listed::of(run.segments());
+    let shades = Shades::of(run.segments());
     write_begin(
         sink,
-        Frame::of(run.siblings()).height(listed.legend_lines()),
+        Frame::of(run.siblings()).height(shades.legend_lines()),
     )?;
     write_tiles(sink)?;
     write_head(sink, scale, run)?;
-    write_exposure(sink, run)?;
+    write_side_by_side(sink, run)?;
     write_axis(sink, scale, run)?;
-    write_lanes(sink, scale, run)?;
+    write_lanes(sink, scale, &shades, run)?;
+    write_waiting(sink, run)?;
     write_pending(sink, run)?;
     write_moments(sink, run)?;
-    write_legend(sink, run.siblings(), &listed)?;
+    write_legend(sink, run.siblings(), &shades)?;
     write_pieces(sink, &[Piece::Text("</svg>\n")])
 }

@@ -1,14 +1,15 @@
 //! What a mark is filled with.
 
-use crate::gathered::Cookies;
+use crate::gathered::Keys;
 use crate::look::{Hatch, Look};
+use crate::shades::Shades;
 
 /// What a mark is filled with.
 #[derive(Clone, Copy)]
 pub(crate) enum Paint {
-    /// What runs with one cookie, or with none.
+    /// What runs with one cookie or with none, or is of one thread group.
     Runs(Look),
-    /// What runs with several cookies, one after another.
+    /// What runs with several cookies, or is of several thread groups, one after another.
     RunsSeveral,
     /// What is forced idle under one core cookie, or under none.
     Forced(Hatch),
@@ -21,21 +22,21 @@ pub(crate) enum Paint {
 }
 
 impl Paint {
-    /// The paint of what ran with these cookies.
-    pub(crate) fn of_ran(cookies: Cookies) -> Paint {
-        match cookies {
-            Cookies::Unknown => Paint::Clear,
-            Cookies::One(cookie) => Paint::Runs(Look::of(cookie)),
-            Cookies::Several => Paint::RunsSeveral,
+    /// The paint of what ran with these cookies, or was of these thread groups.
+    pub(crate) fn of_ran(keys: Keys, shades: &Shades) -> Paint {
+        match keys {
+            Keys::Unknown => Paint::Clear,
+            Keys::One(key) => Paint::Runs(shades.look(key)),
+            Keys::Several => Paint::RunsSeveral,
         }
     }
 
     /// The paint of what was forced idle under these core cookies.
-    pub(crate) fn of_forced(cookies: Cookies) -> Paint {
+    pub(crate) fn of_forced(cookies: Keys) -> Paint {
         match cookies {
-            Cookies::Unknown => Paint::Clear,
-            Cookies::One(cookie) => Paint::Forced(Hatch::of(cookie)),
-            Cookies::Several => Paint::ForcedSeveral,
+            Keys::Unknown => Paint::Clear,
+            Keys::One(cookie) => Paint::Forced(Hatch::of(cookie)),
+            Keys::Several => Paint::ForcedSeveral,
         }
     }
 }

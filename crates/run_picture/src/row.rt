@@ -1,12 +1,12 @@
-//! What is shown beside what the siblings did: when the core was exposed, when a sibling had a pending reschedule, and
-//! when something happened at which no time passes. Spans that are near are drawn as one, and each is seen.
+//! What is shown beside what the siblings did: when tasks that are told apart ran side by side, how many wait on a sibling,
+//! when it had a pending reschedule, and when something happened at which no time passes. Spans that are near are drawn as one, and each is seen.
 
 ghost use Rattle.std.specs.Prelude.{◌≡◌, ◌^◌, ◌<◌, ◌≤◌, OnOk, OnErr};
 ghost use Rattle.cs_outside.specs.Device.{Rose};
 
 use crate::frame::{
-    EVENTS_HEIGHT, EXPOSED_HEIGHT, EXPOSED_TOP, Frame, LANE_HEIGHT, LANES_WIDTH, LEFT, NAMES_END,
-    PENDING_BAR, PENDING_RIM,
+    EVENTS_HEIGHT, EXPOSED_HEIGHT, EXPOSED_TOP, Frame, LANE_HEIGHT, LANES_WIDTH, LEFT, MIXED_HEIGHT,
+    MIXED_TOP, NAMES_END, PENDING_BAR, PENDING_RIM, WAITING_HEIGHT, WAITING_MOST, WAITING_TOP,
 };
 use crate::piece::{Piece, write_pieces};
 use crate::scale::{Scale, Strip, UNIT, part_of};
@@ -14,7 +14,7 @@ use crate::span::Span;
 use crate::title::write_span;
 use cs_outside::{Failed, Sink};
 use cs_types::Cpu;
-use run_segments::{RunSegments, Segment, Window};
+use run_segments::{RunSegments, Segment, Waiting, Window};
 
 /// How high what must be seen is at least, in thousandths of a unit.
 const SEEN: u64 = 2 * UNIT;
@@ -24,8 +24,12 @@ const SEEN: u64 = 2 * UNIT;
 enum Row {
     /// The core is exposed.
     Exposed,
-    /// The core is exposed, drawn through the lanes where it is so without a break.
+    /// The core is exposed, drawn through the lanes if it is so without a break.
     Behind,
+    /// Thread groups run side by side.
+    Mixed,
+    /// Tasks wait on this sibling.
+    Waiting(Cpu),
     /// This sibling has a pending reschedule.
     Pending(Cpu),
     /// Something happened at which no time passes.
@@ -49,6 +53,8 @@ struct Joined {
     count: u64,
     /// How long they are together, in ns.
     time: u64,
+    /// How many tasks wait in one of them at most, 0 if that is not what they tell.
+    most: u32,
 }
 
 impl Joined {
@@ -57,7 +63,15 @@ impl Joined {
             span,
             count: 1,
             time: span.length(),
+            most: 0,
         }
+    }
+
+    /// How many tasks wait for some time.
+    fn of_waiting(waiting: &Waiting) -> Joined {
+        let mut joined = Joined::of(Span::of_waiting(waiting));
+        joined.most = waiting.count;
+        joined
     }
 
     /// Whether there is no time between them.
@@ -74,12 +88,13 @@ impl Joined {
         }
     }
 
-    /// These, and a later one.
-    fn and(self, span: Span) -> Joined {
+    /// These, and later ones.
+    fn and(self, later: Joined) -> Joined {
         Joined {
-            span: self.span.up_to(span),
-            count: self.count.saturating_add(1),
-            time: self.time.saturating_add(span.length()),
+            span: self.span.up_to(later.span),
+            count: self.count.saturating_add(later.count),
+            time: self.time.saturating_add(later.time),
+            most: self.most.max(later.most),
         }
     }
 }
@@ -105,18 +120,20 @@ fn write_rect<K: Sink>(sink: &mut K, strip: Strip, foot: u64, height: u64) -> Re
     )
 }
 
-/// Writes the words of a mark of exposure, and its end.
-fn write_exposed<K: Sink>(sink: &mut K, joined: &Joined) -> Result<(), Failed>
+/// Writes the words of a mark of tasks side by side, and its end.
+fn write_side<K: Sink>(sink: &mut K, words: &str, joined: &Joined) -> Result<(), Failed>
     ensures faultless { OnOk result (K.faults sink.new ≡ K.faults sink.old) }
     ensures failed { OnErr result (Rose (K.faults sink.old) (K.faults sink.new)) }
 {
     if joined.count == 1 {
-        write_pieces(sink, &[Piece::Text("><title>exposed")])?;
+        write_pieces(sink, &[Piece::Text("><title>"), Piece::Text(words)])?;
     } else {
         write_pieces(
             sink,
             &[
-                Piece::Text("><title>exposed "),
+                Piece::Text("><title>"),
+                Piece::Text(words),
+                Piece::Text(" "),
                 Piece::Number(joined.count),
                 Piece::Text(" times, for "),
                 Piece::Time(joined.time),
@@ -124,6 +141,28 @@ fn write_exposed<K: Sink>(sink: &mut K, joined: &Joined) -> Result<(), Failed>
             ],
         )?;
     }
+    write_span(sink, joined.span)?;
+    write_pieces(sink, &[Piece::Text("</rect>\n")])
+}
+
+/// Writes the words of a mark of waiting tasks, and its end.
+fn write_waits<K: Sink>(sink: &mut K, cpu: Cpu, joined: &Joined) -> Result<(), Failed>
+    ensures faultless { OnOk result (K.faults sink.new ≡ K.faults sink.old) }
+    ensures failed { OnErr result (Rose (K.faults sink.old) (K.faults sink.new)) }
+{
+    write_pieces(
+        sink,
+        &[
+            Piece::Text("><title>s"),
+            Piece::Number(u64::from(cpu)),
+            Piece::Text(if joined.count == 1 {
+                ", tasks that wait: "
+            } else {
+                ", tasks that wait at most: "
+            }),
+            Piece::Number(u64::from(joined.most)),
+        ],
+    )?;
     write_span(sink, joined.span)?;
     write_pieces(sink, &[Piece::Text("</rect>\n")])
 }
@@ -199,7 +238,18 @@ impl Sheet {
             Row::Exposed => {
                 let high = EXPOSED_HEIGHT * UNIT;
                 write_rect(sink, strip, EXPOSED_TOP * UNIT + high, joined.height(high))?;
-                write_exposed(sink, joined)
+                write_side(sink, "exposed", joined)
+            }
+            Row::Mixed => {
+                let high = MIXED_HEIGHT * UNIT;
+                write_rect(sink, strip, MIXED_TOP * UNIT + high, joined.height(high))?;
+                write_side(sink, "thread groups side by side", joined)
+            }
+            Row::Waiting(cpu) => {
+                let high = u64::from(joined.most).min(WAITING_MOST) * WAITING_HEIGHT;
+                let top = (frame.lane(cpu) + WAITING_TOP) * UNIT;
+                write_rect(sink, strip, top + high, high)?;
+                write_waits(sink, cpu, joined)
             }
             Row::Behind if joined.count > 1 => Ok(()),
             Row::Behind => {
@@ -220,49 +270,52 @@ impl Sheet {
         }
     }
 
-    /// Takes the next span: joins it to what waits where it is near, and else writes that. It answers what waits then.
+    /// Takes what comes next: joins it to what was put aside if it is near, and else writes that. It answers what is put aside
+    /// then.
     fn take<K: Sink>(
         self,
         sink: &mut K,
-        waiting: Option<Joined>,
-        span: Span,
+        aside: Option<Joined>,
+        next: Joined,
     ) -> Result<Option<Joined>, Failed>
         ensures faultless { OnOk result (K.faults sink.new ≡ K.faults sink.old) }
         ensures failed { OnErr result (Rose (K.faults sink.old) (K.faults sink.new)) }
     {
-        let Some(joined) = waiting else {
-            return Ok(Some(Joined::of(span)));
+        let Some(joined) = aside else {
+            return Ok(Some(next));
         };
-        let goes_on = joined.is_whole() && span.from == joined.span.to;
-        if goes_on || self.scale.joins(joined.span, span) {
-            return Ok(Some(joined.and(span)));
+        let goes_on = joined.is_whole()
+            && next.span.from == joined.span.to
+            && next.most == joined.most;
+        if goes_on || self.scale.joins(joined.span, next.span) {
+            return Ok(Some(joined.and(next)));
         }
         self.write(sink, &joined)?;
-        Ok(Some(Joined::of(span)))
+        Ok(Some(next))
     }
 
-    /// Writes what waits at the end.
-    fn close<K: Sink>(self, sink: &mut K, waiting: Option<Joined>) -> Result<(), Failed>
+    /// Writes what is put aside at the end.
+    fn close<K: Sink>(self, sink: &mut K, aside: Option<Joined>) -> Result<(), Failed>
         ensures faultless { OnOk result (K.faults sink.new ≡ K.faults sink.old) }
         ensures failed { OnErr result (Rose (K.faults sink.old) (K.faults sink.new)) }
     {
-        match waiting {
+        match aside {
             Some(joined) => self.write(sink, &joined)?,
             None => {}
         }
         write_pieces(sink, &[Piece::Text("</g>\n")])
     }
 
-    /// Writes when the core was exposed.
+    /// Writes when tasks ran side by side.
     fn write_windows<K: Sink>(self, sink: &mut K, windows: &[Window]) -> Result<(), Failed>
         ensures faultless { OnOk result (K.faults sink.new ≡ K.faults sink.old) }
         ensures failed { OnErr result (Rose (K.faults sink.old) (K.faults sink.new)) }
     {
-        let mut waiting = None;
+        let mut aside = None;
         for window in windows {
-            waiting = self.take(sink, waiting, Span::of_window(window))?;
+            aside = self.take(sink, aside, Joined::of(Span::of_window(window)))?;
         }
-        self.close(sink, waiting)
+        self.close(sink, aside)
     }
 
     /// Writes when a sibling had a pending reschedule.
@@ -275,13 +328,32 @@ impl Sheet {
         ensures faultless { OnOk result (K.faults sink.new ≡ K.faults sink.old) }
         ensures failed { OnErr result (Rose (K.faults sink.old) (K.faults sink.new)) }
     {
-        let mut waiting = None;
+        let mut aside = None;
         for segment in segments {
             if segment.cpu == cpu && segment.pending {
-                waiting = self.take(sink, waiting, Span::of_segment(segment))?;
+                aside = self.take(sink, aside, Joined::of(Span::of_segment(segment)))?;
             }
         }
-        self.close(sink, waiting)
+        self.close(sink, aside)
+    }
+
+    /// Writes how many tasks wait on a sibling.
+    fn write_waiting<K: Sink>(
+        self,
+        sink: &mut K,
+        waiting: &[Waiting],
+        cpu: Cpu,
+    ) -> Result<(), Failed>
+        ensures faultless { OnOk result (K.faults sink.new ≡ K.faults sink.old) }
+        ensures failed { OnErr result (Rose (K.faults sink.old) (K.faults sink.new)) }
+    {
+        let mut aside = None;
+        for item in waiting {
+            if item.cpu == cpu {
+                aside = self.take(sink, aside, Joined::of_waiting(item))?;
+            }
+        }
+        self.close(sink, aside)
     }
 
     /// Writes when something happened at which no time passes.
@@ -289,11 +361,11 @@ impl Sheet {
         ensures faultless { OnOk result (K.faults sink.new ≡ K.faults sink.old) }
         ensures failed { OnErr result (Rose (K.faults sink.old) (K.faults sink.new)) }
     {
-        let mut waiting = None;
+        let mut aside = None;
         for moment in moments {
-            waiting = self.take(sink, waiting, Span::of_moment(*moment))?;
+            aside = self.take(sink, aside, Joined::of(Span::of_moment(*moment)))?;
         }
-        self.close(sink, waiting)
+        self.close(sink, aside)
     }
 }
 
@@ -306,30 +378,65 @@ fn sheet_of(run: &RunSegments, row: Row) -> Sheet {
     }
 }
 
-/// Writes when the core was exposed: in a row of its own, and behind the lanes. At an `Err` the sink has failed.
-pub(crate) fn write_exposure<K: Sink>(sink: &mut K, run: &RunSegments) -> Result<(), Failed>
+/// Writes the begin of a row above the lanes: its name, whose foot is here, and its frame.
+fn write_row<K: Sink>(
+    sink: &mut K,
+    name: &str,
+    foot: u64,
+    top: u64,
+    height: u64,
+) -> Result<(), Failed>
     ensures faultless { OnOk result (K.faults sink.new ≡ K.faults sink.old) }
     ensures failed { OnErr result (Rose (K.faults sink.old) (K.faults sink.new)) }
 {
-    write_pieces(sink, &[Piece::Text("<g class=\"b\">\n")])?;
-    sheet_of(run, Row::Behind).write_windows(sink, run.windows())?;
     write_pieces(
         sink,
         &[
             Piece::Text("<text class=\"n\" x=\""),
             Piece::Number(NAMES_END),
-            Piece::Text("\" y=\"80\">exposed</text>\n<rect class=\"f\" x=\""),
+            Piece::Text("\" y=\""),
+            Piece::Number(foot),
+            Piece::Text("\">"),
+            Piece::Text(name),
+            Piece::Text("</text>\n<rect class=\"f\" x=\""),
             Piece::Number(LEFT),
             Piece::Text("\" y=\""),
-            Piece::Number(EXPOSED_TOP),
+            Piece::Number(top),
             Piece::Text("\" width=\""),
             Piece::Number(LANES_WIDTH),
             Piece::Text("\" height=\""),
-            Piece::Number(EXPOSED_HEIGHT),
-            Piece::Text("\"/>\n<g class=\"e\">\n"),
+            Piece::Number(height),
+            Piece::Text("\"/>\n"),
         ],
-    )?;
-    sheet_of(run, Row::Exposed).write_windows(sink, run.windows())
+    )
+}
+
+/// Writes when tasks that are told apart ran side by side: in a row for cookies and one for thread groups, and for cookies
+/// behind the lanes too. At an `Err` the sink has failed.
+pub(crate) fn write_side_by_side<K: Sink>(sink: &mut K, run: &RunSegments) -> Result<(), Failed>
+    ensures faultless { OnOk result (K.faults sink.new ≡ K.faults sink.old) }
+    ensures failed { OnErr result (Rose (K.faults sink.old) (K.faults sink.new)) }
+{
+    write_pieces(sink, &[Piece::Text("<g class=\"b\">\n")])?;
+    sheet_of(run, Row::Behind).write_windows(sink, run.exposed())?;
+    write_row(sink, "exposed", 80, EXPOSED_TOP, EXPOSED_HEIGHT)?;
+    write_pieces(sink, &[Piece::Text("<g class=\"e\">\n")])?;
+    sheet_of(run, Row::Exposed).write_windows(sink, run.exposed())?;
+    write_row(sink, "groups", 99, MIXED_TOP, MIXED_HEIGHT)?;
+    write_pieces(sink, &[Piece::Text("<g class=\"u\">\n")])?;
+    sheet_of(run, Row::Mixed).write_windows(sink, run.mixed())
+}
+
+/// Writes how many tasks wait on each sibling, below its lane. At an `Err` the sink has failed.
+pub(crate) fn write_waiting<K: Sink>(sink: &mut K, run: &RunSegments) -> Result<(), Failed>
+    ensures faultless { OnOk result (K.faults sink.new ≡ K.faults sink.old) }
+    ensures failed { OnErr result (Rose (K.faults sink.old) (K.faults sink.new)) }
+{
+    for cpu in 0..run.siblings() {
+        write_pieces(sink, &[Piece::Text("<g class=\"w\">\n")])?;
+        sheet_of(run, Row::Waiting(cpu)).write_waiting(sink, run.waiting(), cpu)?;
+    }
+    Ok(())
 }
 
 /// Writes when the siblings had a pending reschedule, over their lanes. At an `Err` the sink has failed.

@@ -1,6 +1,6 @@
 //! A time from one moment to another, whatever is so in it.
 
-use run_segments::{Segment, Window};
+use run_segments::{Segment, Waiting, Window};
 
 /// The time from one moment to another.
 #[derive(Clone, Copy)]
@@ -23,6 +23,13 @@ impl Span {
         Span {
             from: window.from,
             to: window.to,
+        }
+    }
+
+    pub(crate) fn of_waiting(waiting: &Waiting) -> Span {
+        Span {
+            from: waiting.from,
+            to: waiting.to,
         }
     }
 

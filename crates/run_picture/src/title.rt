@@ -7,35 +7,51 @@ use crate::gathered::Gathered;
 use crate::piece::{Piece, write_pieces};
 use crate::span::Span;
 use cs_outside::{Failed, Sink};
-use cs_types::Pid;
+use cs_types::Cookie;
 use run_segments::Segment;
 use run_times::Doing;
 
-/// Writes what a sibling does, in words.
-fn write_doing<K: Sink>(sink: &mut K, pid: Pid, doing: Doing) -> Result<(), Failed>
+/// Writes which task runs.
+fn write_task<K: Sink>(sink: &mut K, segment: &Segment) -> Result<(), Failed>
     ensures faultless { OnOk result (K.faults sink.new ≡ K.faults sink.old) }
     ensures failed { OnErr result (Rose (K.faults sink.old) (K.faults sink.new)) }
 {
-    let pid = Piece::Number(u64::from(pid));
-    match doing {
+    write_pieces(
+        sink,
+        &[
+            Piece::Text("runs task "),
+            Piece::Number(u64::from(segment.pid)),
+            Piece::Text(" of thread group "),
+            Piece::Number(segment.group),
+        ],
+    )
+}
+
+/// Writes with which cookie it does.
+fn write_cookie<K: Sink>(sink: &mut K, cookie: Cookie) -> Result<(), Failed>
+    ensures faultless { OnOk result (K.faults sink.new ≡ K.faults sink.old) }
+    ensures failed { OnErr result (Rose (K.faults sink.old) (K.faults sink.new)) }
+{
+    if cookie == 0 {
+        return write_pieces(sink, &[Piece::Text(" without a cookie")]);
+    }
+    write_pieces(
+        sink,
+        &[Piece::Text(" with cookie "), Piece::Number(cookie)],
+    )
+}
+
+/// Writes what a sibling does, in words.
+fn write_doing<K: Sink>(sink: &mut K, segment: &Segment) -> Result<(), Failed>
+    ensures faultless { OnOk result (K.faults sink.new ≡ K.faults sink.old) }
+    ensures failed { OnErr result (Rose (K.faults sink.old) (K.faults sink.new)) }
+{
+    match segment.doing {
         Doing::Offline => write_pieces(sink, &[Piece::Text("is offline")]),
-        Doing::Runs(0) => write_pieces(
-            sink,
-            &[
-                Piece::Text("runs task "),
-                pid,
-                Piece::Text(" without a cookie"),
-            ],
-        ),
-        Doing::Runs(cookie) => write_pieces(
-            sink,
-            &[
-                Piece::Text("runs task "),
-                pid,
-                Piece::Text(" with cookie "),
-                Piece::Number(cookie),
-            ],
-        ),
+        Doing::Runs(cookie) => {
+            write_task(sink, segment)?;
+            write_cookie(sink, cookie)
+        }
         Doing::Idles => write_pieces(sink, &[Piece::Text("idles")]),
         Doing::ForcedIdle(0) => write_pieces(
             sink,
@@ -77,7 +93,7 @@ pub(crate) fn write_title<K: Sink>(sink: &mut K, segment: &Segment) -> Result<()
 {
     let cpu = Piece::Number(u64::from(segment.cpu));
     write_pieces(sink, &[Piece::Text("<title>s"), cpu, Piece::Text(" ")])?;
-    write_doing(sink, segment.pid, segment.doing)?;
+    write_doing(sink, segment)?;
     if segment.pending {
         write_pieces(sink, &[Piece::Text(", reschedule pending")])?;
     }

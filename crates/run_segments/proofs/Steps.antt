@@ -12,7 +12,7 @@ use Rattle.run_times.specs.declared.doing.Doing.{Doing}
 use Rattle.run_times.specs.Doing.{doing_of, is_pending}
 use Rattle.run_times.specs.Times.{Span, total_time}
 use Rattle.run_segments.specs.declared.segments.Segment.{Segment}
-use Rattle.run_segments.specs.Segments.{pid_run, begins, segment_in}
+use Rattle.run_segments.specs.Segments.{pid_run, group_run, begins, segment_in}
 use Rattle.run_segments.specs.Kept.{Kept, goes_on_with, last_goes_on, kept_with, Follow, last_span, ArePlaced, AreKept}
 use Rattle.run_segments.proofs.Extended.{extended, segments_in-push}
 use Rattle.run_segments.proofs.Placed.{map-same, alike, other_sibling, moved, kept_with-segments, placed_with, placed-alike}
@@ -53,15 +53,16 @@ at_start siblings spans span kept now are =
 -- ---- at the next sibling
 
 -- the segment that a sibling begins with a span
-pub begun_is : (span : Span) (room : RoomState) (cpu from to pid : ℕ) (doing : Doing) (pending : Bool) → span.room ≡ room → span.room.clock ≡ from → from + span.time ≡ to →
-    pid ≡ pid_run room cpu → doing ≡ doing_of room cpu → pending ≡ is_pending room cpu →
-    record { from = from; to = to; cpu = cpu; pid = pid; doing = doing; pending = pending } ≡ segment_in span cpu
-begun_is span room cpu from to pid doing pending same now ends runs does waits =
+pub begun_is : (span : Span) (room : RoomState) (cpu from to pid group : ℕ) (doing : Doing) (pending : Bool) → span.room ≡ room → span.room.clock ≡ from → from + span.time ≡ to →
+    pid ≡ pid_run room cpu → group ≡ group_run room cpu → doing ≡ doing_of room cpu → pending ≡ is_pending room cpu →
+    record { from = from; to = to; cpu = cpu; pid = pid; group = group; doing = doing; pending = pending } ≡ segment_in span cpu
+begun_is span room cpu from to pid group doing pending same now ends runs leads does waits =
     let to_is : to ≡ (segment_in span cpu).to = omega (arith, ends, now) in
     let pid_is : pid ≡ pid_run span.room cpu = runs ∙ ap (λ (r : RoomState). pid_run r cpu) (sym same) in
+    let group_is : group ≡ group_run span.room cpu = leads ∙ ap (λ (r : RoomState). group_run r cpu) (sym same) in
     let doing_is : doing ≡ doing_of span.room cpu = does ∙ ap (λ (r : RoomState). doing_of r cpu) (sym same) in
     let pending_is : pending ≡ is_pending span.room cpu = waits ∙ ap (λ (r : RoomState). is_pending r cpu) (sym same) in
-    λ i. record { from = sym now i; to = to_is i; cpu = cpu; pid = pid_is i; doing = doing_is i; pending = pending_is i }
+    λ i. record { from = sym now i; to = to_is i; cpu = cpu; pid = pid_is i; group = group_is i; doing = doing_is i; pending = pending_is i }
 
 same_below : (cpu count : ℕ) → cpu ≢ count → ltb cpu (count + 1) ≡ ltb cpu count
 same_below cpu count other =

@@ -5,13 +5,18 @@ use Rattle.cs_types.specs.Room.{Opening, RoomState, sibling_of, is_online}
 use Rattle.cs_types.specs.History.{History}
 use Rattle.run_times.specs.declared.doing.Doing.{Doing}
 use Rattle.run_times.specs.declared.doing.Doing.TheVariants.{Offline, Runs, Idles, ForcedIdle}
-use Rattle.run_times.specs.Doing.{doing_of, is_pending}
+use Rattle.run_times.specs.declared.by.By.TheVariants.{Group}
+use Rattle.run_times.specs.Doing.{key_run, doing_of, is_pending}
 use Rattle.run_times.specs.Times.{Span, spans_of, total_time}
 use Rattle.run_segments.specs.declared.segments.Segment.{Segment}
 
 -- the pid that a sibling runs, 0 if it is offline or runs idle
 abbrev pub pid_run : RoomState → ℕ → ℕ
 pid_run room cpu = if is_online room cpu then unwrap_or (sibling_of room cpu).run 0 else 0
+
+-- the pid that leads the thread group of the task that a sibling runs, 0 if it is offline or runs idle
+abbrev pub group_run : RoomState → ℕ → ℕ
+group_run room cpu = unwrap_or (key_run Group room cpu) 0
 
 -- whether a sibling does the same
 abbrev pub is_same : Doing → Doing → Bool
@@ -29,6 +34,7 @@ segment_in span cpu =
       to = span.room.clock + span.time;
       cpu = cpu;
       pid = pid_run span.room cpu;
+      group = group_run span.room cpu;
       doing = doing_of span.room cpu;
       pending = is_pending span.room cpu;
     }

@@ -1,5 +1,5 @@
-//! What a run shows over time: its segments, each of which tells what one sibling did without a break, and when tasks that
-//! distrust each other ran side by side. It is over the contract of a machine alone.
+//! What a run shows over time: its segments, each of which tells what one sibling did without a break, when tasks that are
+//! told apart ran side by side, and how many waited. It is over the contract of a machine alone.
 #![tactic(auto)]
 
 mod kept;
@@ -8,6 +8,7 @@ mod queued;
 mod recorder;
 mod run;
 mod segments;
+mod waiting;
 
 pub use run::recorded_run;
-pub use segments::{RunSegments, Segment, Window};
+pub use segments::{RunSegments, Segment, Waiting, Window};

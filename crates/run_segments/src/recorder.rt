@@ -14,8 +14,9 @@ use crate::kept::KeptSegments;
 use crate::now::now_of;
 use crate::queued::Queued;
 use crate::segments::{RunSegments, Segment, Window};
+use crate::waiting::KeptWaiting;
 use cs_types::{Event, OutOfMemory, Room};
-use run_times::{advance_of, is_exposed};
+use run_times::{By, advance_of, some_apart};
 use std::alloc::Global;
 
 /// What a run showed so far.
@@ -23,12 +24,22 @@ use std::alloc::Global;
 pub(crate) struct Recorder {
     segments: KeptSegments,
     queued: Queued,
-    windows: Vec<Window>,
+    waiting: KeptWaiting,
+    exposed: Vec<Window>,
+    mixed: Vec<Window>,
     moments: Vec<u64>,
 }
 
-/// Takes in that two siblings run tasks with distinct cookies from one moment to another.
-fn keep_window(windows: &mut Vec<Window>, from: u64, to: u64) -> Result<(), OutOfMemory> {
+/// Takes in whether two siblings run tasks that are told apart from one moment to another.
+fn keep_window(
+    windows: &mut Vec<Window>,
+    apart: bool,
+    from: u64,
+    to: u64,
+) -> Result<(), OutOfMemory> {
+    if !apart {
+        return Ok(());
+    }
     if let Some(window) = windows.last_mut()
         && window.to == from
     {
@@ -56,7 +67,9 @@ impl Recorder {
         Ok(Recorder {
             segments: KeptSegments::none(alloc, siblings)?,
             queued: Queued::none(alloc, siblings)?,
-            windows: Vec::new(alloc),
+            waiting: KeptWaiting::none(alloc, siblings)?,
+            exposed: Vec::new(alloc),
+            mixed: Vec::new(alloc),
             moments: Vec::new(alloc),
         })
     }
@@ -84,6 +97,7 @@ impl Recorder {
                 to,
                 cpu,
                 pid: now.pid,
+                group: now.group,
                 doing: now.doing,
                 pending: now.pending,
             })?;
@@ -103,13 +117,13 @@ impl Recorder {
         let from = room.clock();
         let to = from.saturating_add(time);
         self.keep_each(room, from, to)?;
-        if is_exposed(room) {
-            keep_window(&mut self.windows, from, to)?;
-        }
+        self.waiting.keep_each(room, from, to)?;
+        keep_window(&mut self.exposed, some_apart(room, By::Cookie), from, to)?;
+        keep_window(&mut self.mixed, some_apart(room, By::Group), from, to)?;
         Ok(())
     }
 
-    /// Takes in an event that takes no time and is to be made next in the room, or the events of the end.
+    /// Takes in an event that takes no time and is to be made next in the room, or the final drain.
     pub(crate) fn moment<R: Room>(&mut self, room: &R) -> Result<(), OutOfMemory>
         ensures segments { self.new.segments ≡ self.old.segments }
         ensures marks { OnOk result ((siblings : ℕ) (before now : RoomState) →
@@ -117,6 +131,7 @@ impl Recorder {
     {
         keep_moment(&mut self.moments, room.clock())?;
         self.queued.forget();
+        self.waiting.forget();
         Ok(())
     }
 
@@ -144,7 +159,9 @@ impl Recorder {
     {
         let Recorder {
             segments,
-            windows,
+            waiting,
+            exposed,
+            mixed,
             moments,
             ..
         } = self;
@@ -152,7 +169,9 @@ impl Recorder {
             siblings: room.siblings(),
             total: room.clock(),
             segments: segments.all(),
-            windows,
+            exposed,
+            mixed,
+            waiting: waiting.all(),
             moments,
         }
     }

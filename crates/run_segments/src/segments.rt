@@ -15,15 +15,18 @@ pub struct Segment {
     pub to: u64,
     /// The sibling.
     pub cpu: Cpu,
-    /// The task that it runs, 0 where it runs none.
+    /// The task that it runs, 0 if it runs none.
     pub pid: Pid,
+    /// The thread group of that task, by the pid of its leader, 0 if it runs none.
+    pub group: u64,
     /// What it does.
     pub doing: Doing,
     /// Whether it is online and has a pending reschedule.
     pub pending: bool,
 }
 
-/// A time, from one clock to another, in which two online siblings run tasks with distinct cookies.
+/// A time, from one clock to another, in which two online siblings run tasks that are told apart: with distinct cookies, or
+/// of distinct thread groups.
 #[derive(Clone, Copy)]
 pub struct Window {
     /// The clock at its begin, in ns.
@@ -32,13 +35,28 @@ pub struct Window {
     pub to: u64,
 }
 
+/// How many tasks wait on one sibling without a change, from one clock to another.
+#[derive(Clone, Copy)]
+pub struct Waiting {
+    /// The clock at its begin, in ns.
+    pub from: u64,
+    /// The clock at its end, in ns, above its begin.
+    pub to: u64,
+    /// The sibling.
+    pub cpu: Cpu,
+    /// How many tasks are queued on it that it does not run.
+    pub count: u32,
+}
+
 /// What a run shows over time.
 #[derive(Drop)]
 pub struct RunSegments {
     pub(crate) siblings: u8,
     pub(crate) total: u64,
     pub(crate) segments: Vec<Segment>,
-    pub(crate) windows: Vec<Window>,
+    pub(crate) exposed: Vec<Window>,
+    pub(crate) mixed: Vec<Window>,
+    pub(crate) waiting: Vec<Waiting>,
     pub(crate) moments: Vec<u64>,
 }
 
@@ -72,8 +90,19 @@ impl RunSegments {
     }
 
     /// When two online siblings ran tasks with distinct cookies, by rising time. No two of them touch.
-    pub fn windows(&self) -> &[Window] {
-        self.windows.as_slice()
+    pub fn exposed(&self) -> &[Window] {
+        self.exposed.as_slice()
+    }
+
+    /// When two online siblings ran tasks of distinct thread groups, by rising time. No two of them touch.
+    pub fn mixed(&self) -> &[Window] {
+        self.mixed.as_slice()
+    }
+
+    /// How many tasks waited on each sibling, by rising begin, and of one begin by rising sibling. If none wait there is
+    /// nothing.
+    pub fn waiting(&self) -> &[Waiting] {
+        self.waiting.as_slice()
     }
 
     /// The clock at the entries at which no time passes, in ns: at all events but an advance. The moments rise, and each

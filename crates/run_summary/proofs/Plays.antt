@@ -8,7 +8,7 @@ use Rattle.cs_types.specs.declared.reply.Entry.{Entry}
 use Rattle.cs_types.specs.Room.{Opening}
 use Rattle.cs_types.specs.History.{History, history_of}
 use Rattle.cs_laws.proofs.Histories.{length-history_of}
-use Rattle.exposed_pairs.specs.Pairs.{most_rows}
+use Rattle.pair_times.specs.Pairs.{most_rows}
 use Rattle.run_summary.specs.Summaries.{Summary, ArePartsOf}
 
 -- the history so far is no longer than the steps

@@ -6,12 +6,12 @@ ghost use Rattle.cs_types.specs.History.{fold_of, history_of, AreEvents};
 ghost use Rattle.cs_types.specs.Drain.{IsDrained};
 ghost use Rattle.cs_types.specs.Laws.{is_refused};
 ghost use Rattle.run_times.specs.Sums.{did};
-ghost use Rattle.exposed_pairs.specs.Pairs.{most_rows};
+ghost use Rattle.pair_times.specs.Pairs.{most_rows};
 ghost use Rattle.task_times.specs.declared.times.TaskTimes.{TaskTimes};
 ghost use Rattle.task_times.specs.Living.{lives};
 ghost use Rattle.task_times.specs.TaskSums.{all_charged, lived};
 ghost use Rattle.run_summary.specs.Replies.{count_of, all_refused};
-ghost use Rattle.run_summary.specs.Summaries.{ArePartsOf, IsSummaryOf};
+ghost use Rattle.run_summary.specs.Summaries.{spare_rows, ArePartsOf, IsSummaryOf};
 
 use crate::summary::RunSummary;
 use cs_types::{OutOfMemory, Room, Step};
@@ -25,7 +25,7 @@ fn play<R: Room>(room: &mut R, steps: &[Step], summary: &mut RunSummary)
     requires events { All (λ step. IsEvent (R.opening room.old).scenario.siblings step.event) steps.now }
     requires parts { ArePartsOf (R.opening room.old) (R.history room.old) summary.old }
     requires rows { sum_by (λ step. most_rows (R.opening room.old).scenario.siblings step.event) steps.now
-        ≤ summary.old.pairs.spare }
+        ≤ spare_rows summary.old }
     requires few { length steps.now ≤ summary.old.tasks.entries }
     requires fits { summary.old.tasks.entries < 2 ^ 26 }
 
@@ -76,12 +76,15 @@ pub fn summarized_run<R: Room>(
     ensures charged { IfOk result (λ summary.
         sum_by (λ times. times.charged) summary.tasks.cookies ≡ all_charged summary.tasks.tasks) }
 
-    // Tasks with distinct cookies ran side by side for no longer than some sibling was pending, and never where none
+    // Tasks with distinct cookies ran side by side for no longer than some sibling was pending, and never if none
     // was at any advance.
-    ensures exposed { IfOk result (λ summary. summary.times.exposed ≤ summary.times.pending) }
+    ensures exposed { IfOk result (λ summary. summary.times.exposed.all ≤ summary.times.pending) }
 
-    // Those of one pair of cookies did for no longer than those of any.
-    ensures pairs { IfOk result (λ summary. All (λ row. row.exposed ≤ summary.times.exposed) summary.pairs.rows) }
+    // Those of one pair of cookies did for no longer than those of any, and those of one pair of thread groups too.
+    ensures cookie_pairs { IfOk result (λ summary.
+        All (λ row. row.time ≤ summary.times.exposed.all) summary.cookie_pairs.rows) }
+    ensures group_pairs { IfOk result (λ summary.
+        All (λ row. row.time ≤ summary.times.mixed.all) summary.group_pairs.rows) }
 
     // The counts of the replies add up to the number of the entries that are refused.
     ensures refused { IfOk result (λ summary. all_refused summary.replies ≡ count_of is_refused (R.history room.new)) }

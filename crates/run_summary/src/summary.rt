@@ -6,16 +6,16 @@ ghost use Rattle.cs_types.specs.declared.reply.Entry.{Entry};
 ghost use Rattle.cs_types.specs.Scenario.{IsEvent, IsPlayable};
 ghost use Rattle.cs_types.specs.Room.{Opening};
 ghost use Rattle.cs_types.specs.History.{fold_of, AreEvents};
-ghost use Rattle.exposed_pairs.specs.Pairs.{most_rows};
+ghost use Rattle.pair_times.specs.Pairs.{most_rows};
 ghost use Rattle.task_times.specs.declared.times.TaskTimes.{TaskTimes};
 ghost use Rattle.task_times.specs.Living.{lives};
 ghost use Rattle.task_times.specs.TaskSums.{all_charged, lived};
-ghost use Rattle.run_summary.specs.Summaries.{ArePartsOf, IsSummaryOf};
+ghost use Rattle.run_summary.specs.Summaries.{spare_rows, ArePartsOf, IsSummaryOf};
 
 use crate::replies::ReplyCounts;
 use cs_types::{Event, OutOfMemory, Room, Step};
-use exposed_pairs::{ExposedPairs, PairTime};
-use run_times::RunTimes;
+use pair_times::{PairTimes, PairTime};
+use run_times::{By, RunTimes};
 use std::alloc::Global;
 use std::marker::Model;
 use task_times::RunTasks;
@@ -24,7 +24,8 @@ use task_times::RunTasks;
 #[derive(Drop)]
 pub struct RunSummary {
     times: RunTimes,
-    pairs: ExposedPairs,
+    cookie_pairs: PairTimes,
+    group_pairs: PairTimes,
     /// What each was charged is noted at the end.
     tasks: RunTasks,
     /// They are counted at the end.
@@ -38,7 +39,8 @@ impl Model for RunSummary {
 
     ghost view = { λ summary. record {
       times = summary.times;
-      pairs = summary.pairs;
+      cookie_pairs = summary.cookie_pairs;
+      group_pairs = summary.group_pairs;
       tasks = summary.tasks;
       replies = summary.replies;
     } };
@@ -52,13 +54,14 @@ impl RunSummary {
         ensures parts { IfOk result (λ summary. (opening : Opening) → opening.scenario.siblings ≡ siblings →
             ArePartsOf opening [] summary) }
         ensures spare { IfOk result (λ summary.
-            sum_by (λ step. most_rows siblings step.event) steps.now ≤ summary.pairs.spare) }
+            sum_by (λ step. most_rows siblings step.event) steps.now ≤ spare_rows summary) }
         ensures entries { IfOk result (λ summary. summary.tasks.entries ≡ length steps.now + siblings * siblings) }
     {
         let most = usize::from(siblings);
         Ok(RunSummary {
             times: RunTimes::open(alloc, siblings)?,
-            pairs: ExposedPairs::open(alloc, siblings, steps)?,
+            cookie_pairs: PairTimes::open(alloc, By::Cookie, siblings, steps)?,
+            group_pairs: PairTimes::open(alloc, By::Group, siblings, steps)?,
             tasks: RunTasks::open(alloc, steps.len() + most * most)?,
             replies: ReplyCounts::none(),
         })
@@ -70,17 +73,18 @@ impl RunSummary {
         requires events { AreEvents (R.opening room.now) (R.history room.now) }
         requires event { IsEvent (R.opening room.now).scenario.siblings event }
         requires parts { ArePartsOf (R.opening room.now) (R.history room.now) self.old }
-        requires spare { most_rows (R.opening room.now).scenario.siblings event ≤ self.old.pairs.spare }
+        requires spare { most_rows (R.opening room.now).scenario.siblings event ≤ spare_rows self.old }
         requires few { length (R.history room.now) ≤ self.old.tasks.entries }
         requires fits { self.old.tasks.entries < 2 ^ 26 }
         ensures parts { (entry : Entry) → entry.event ≡ event →
             ArePartsOf (R.opening room.now) (R.history room.now ++ entry ∷ []) self.new }
-        ensures spare { self.old.pairs.spare
-            ≤ self.new.pairs.spare + most_rows (R.opening room.now).scenario.siblings event }
+        ensures spare { spare_rows self.old
+            ≤ spare_rows self.new + most_rows (R.opening room.now).scenario.siblings event }
         ensures entries { self.new.tasks.entries ≡ self.old.tasks.entries }
     {
         self.times.before(room, event);
-        self.pairs.before(room, event);
+        self.cookie_pairs.before(room, event);
+        self.group_pairs.before(room, event);
         self.tasks.before(room, event);
     }
 
@@ -111,11 +115,19 @@ impl RunSummary {
         &self.times
     }
 
-    /// The pairs of cookies that ran side by side, by rising lower cookie, and then by rising higher one.
-    pub fn pairs(&self) -> &[PairTime]
-        ensures { result.now ≡ self.now.pairs.rows }
+    /// The pairs of cookies whose tasks ran side by side, by rising lower cookie, and then by rising higher one.
+    pub fn cookie_pairs(&self) -> &[PairTime]
+        ensures { result.now ≡ self.now.cookie_pairs.rows }
     {
-        self.pairs.rows()
+        self.cookie_pairs.rows()
+    }
+
+    /// The pairs of thread groups whose tasks ran side by side, by rising lower pid of their leaders, and then by rising
+    /// higher one.
+    pub fn group_pairs(&self) -> &[PairTime]
+        ensures { result.now ≡ self.now.group_pairs.rows }
+    {
+        self.group_pairs.rows()
     }
 
     /// For how long each task and the tasks of each cookie did what, and what they were charged.

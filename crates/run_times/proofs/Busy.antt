@@ -11,7 +11,9 @@ use Rattle.cs_types.proofs.Foremost.{each_weaker}
 use Rattle.cs_laws.proofs.Homes.{IsQueuedOn, each_queued}
 use Rattle.cs_laws.proofs.Rising.{AreRising}
 use Rattle.run_times.specs.declared.doing.Doing.TheVariants.{Offline, Runs}
-use Rattle.run_times.specs.Doing.{is_busy, cookie_run, cookie_at, idling, doing_of}
+use Rattle.run_times.specs.declared.by.By.{By}
+use Rattle.run_times.specs.declared.by.By.TheVariants.{Cookie}
+use Rattle.run_times.specs.Doing.{is_busy, key_of, key_run, cookie_run, cookie_at, idling, doing_of}
 
 -- what a sibling runs is queued on it, as the law of a machine says it
 abbrev pub IsQueued : RoomState → ℕ → Type 0
@@ -40,15 +42,15 @@ runs_task room cpu cookie = go (is_online room cpu) (sibling_of room cpu).run wh
   go true None up is = absurd cc
   go true (Some pid) up is = ap Runs (the_cookie cookie (task_of room pid) is)
 
--- an online sibling without one runs idle
-pub runs_idle : (room : RoomState) (cpu : ℕ) → AreRising room → IsQueued room cpu → is_online room cpu ≡ true → None ≡ cookie_run room cpu → (sibling_of room cpu).run ≡ None
-runs_idle room cpu rises = go (is_online room cpu) (sibling_of room cpu).run where
-  gone : (task : Option Task) → None ≡ option_map (λ t. t.cookie) task → task ≡ None
+-- an online sibling without a living task runs idle
+pub runs_idle : (by : By) (room : RoomState) (cpu : ℕ) → AreRising room → IsQueued room cpu → is_online room cpu ≡ true → None ≡ key_run by room cpu → (sibling_of room cpu).run ≡ None
+runs_idle by room cpu rises = go (is_online room cpu) (sibling_of room cpu).run where
+  gone : (task : Option Task) → None ≡ option_map (key_of by) task → task ≡ None
   gone None is = refl
   gone (Some task) is = absurd cc
 
   go : (online : Bool) (run : Option ℕ) → IfSome run (Contains (pids_on room cpu)) → online ≡ true →
-      None ≡ cond online (option_map (λ t. t.cookie) (option_and_then (task_of room) run)) None → run ≡ None
+      None ≡ cond online (option_map (key_of by) (option_and_then (task_of room) run)) None → run ≡ None
   go false run queued up is = absurd cc
   go true None queued up is = refl
   go true (Some pid) queued up is = absurd (lives room cpu pid rises queued (gone (task_of room pid) is))
@@ -56,24 +58,24 @@ runs_idle room cpu rises = go (is_online room cpu) (sibling_of room cpu).run whe
 -- what it does then
 pub does_idle : (room : RoomState) (cpu : ℕ) → AreRising room → IsQueued room cpu → is_online room cpu ≡ true → None ≡ cookie_run room cpu → idling room cpu ≡ doing_of room cpu
 does_idle room cpu rises queued up none =
-    sym ((λ i. cond (up i) (option_map_or (λ pid. Runs (cookie_at room pid)) (runs_idle room cpu rises queued up none i) (idling room cpu)) Offline))
+    sym ((λ i. cond (up i) (option_map_or (λ pid. Runs (cookie_at room pid)) (runs_idle Cookie room cpu rises queued up none i) (idling room cpu)) Offline))
 
--- one that is busy has the cookie of a living task
-pub busy_cookie : (room : RoomState) (cpu : ℕ) → AreRising room → IsQueued room cpu → is_busy room cpu ≡ true → (cookie : ℕ) × (cookie_run room cpu ≡ Some cookie)
-busy_cookie room cpu rises queued busy = go (cookie_run room cpu) refl where
+-- one that is busy runs a living task
+pub busy_key : (by : By) (room : RoomState) (cpu : ℕ) → AreRising room → IsQueued room cpu → is_busy room cpu ≡ true → (key : ℕ) × (key_run by room cpu ≡ Some key)
+busy_key by room cpu rises queued busy = go (key_run by room cpu) refl where
   up : is_online room cpu ≡ true
   up = (and_parts (is_online room cpu) (is_some (sibling_of room cpu).run) busy).0
 
-  go : (found : Option ℕ) → cookie_run room cpu ≡ found → (cookie : ℕ) × (cookie_run room cpu ≡ Some cookie)
-  go (Some cookie) is = (cookie, is)
+  go : (found : Option ℕ) → key_run by room cpu ≡ found → (key : ℕ) × (key_run by room cpu ≡ Some key)
+  go (Some key) is = (key, is)
   go None is =
-      let idle = runs_idle room cpu rises queued up (sym is) in
+      let idle = runs_idle by room cpu rises queued up (sym is) in
       absurd (let wrong : false ≡ true = sym (ap is_some idle) ∙ (and_parts (is_online room cpu) (is_some (sibling_of room cpu).run) busy).1 in cc)
 
--- one that has it is busy
-pub busy_by : (room : RoomState) (cpu cookie : ℕ) → cookie_run room cpu ≡ Some cookie → is_busy room cpu ≡ true
-busy_by room cpu cookie = go (is_online room cpu) (sibling_of room cpu).run where
-  go : (online : Bool) (run : Option ℕ) → cond online (option_map (λ t. t.cookie) (option_and_then (task_of room) run)) None ≡ Some cookie → (online && is_some run) ≡ true
+-- one that runs one is busy
+pub busy_by : (by : By) (room : RoomState) (cpu key : ℕ) → key_run by room cpu ≡ Some key → is_busy room cpu ≡ true
+busy_by by room cpu key = go (is_online room cpu) (sibling_of room cpu).run where
+  go : (online : Bool) (run : Option ℕ) → cond online (option_map (key_of by) (option_and_then (task_of room) run)) None ≡ Some key → (online && is_some run) ≡ true
   go false run is = absurd cc
   go true None is = absurd cc
   go true (Some pid) is = refl

@@ -17,11 +17,12 @@ use Rattle.cs_types.proofs.Filtered.{Contains-filter, Contains-range}
 use Rattle.cs_laws.proofs.Histories.{moment_of-push}
 use Rattle.cs_laws.proofs.Trust.{settled-moment_of}
 use Rattle.run_times.specs.declared.siblings.SiblingTimes.{SiblingTimes}
+use Rattle.run_times.specs.declared.by.By.TheVariants.{Cookie}
 use Rattle.run_times.specs.Doing.{is_busy, is_pending, some_pending, is_exposed}
 use Rattle.run_times.specs.Times.{Span, advance_of, span_of, spans_from, spans_of, total_time}
 use Rattle.run_times.specs.Sums.{sibling_times, did, times_in, times_of}
 use Rattle.run_times.proofs.Below.{some_below}
-use Rattle.run_times.proofs.Exposed.{RunsShared, unexposed}
+use Rattle.run_times.proofs.Exposed.{RunsShared, none_apart}
 use Rattle.run_times.proofs.Spans.{spans_from-append, time_in-le, did-sibling_times}
 
 -- ---- what each sibling did adds up to all time
@@ -30,7 +31,7 @@ pub each_adds_up : (siblings : ℕ) (spans : List Span) → All (λ (times : Sib
 each_adds_up siblings spans =
     All-map (λ (times : SiblingTimes). did times ≡ total_time spans) (sibling_times spans) (range_with_len 0 siblings) (λ k d few. did-sibling_times spans _)
 
--- ---- the entries of the end take no time
+-- ---- the final drain takes no time
 
 no_spans : (moment : Moment) (entries : List Entry) → IsEndFrom moment entries → spans_from moment entries ≡ []
 no_spans moment [] ends = refl
@@ -51,9 +52,9 @@ times_of-drained opening past now drained = ap (times_in opening.scenario.siblin
 
 -- ---- exposure
 
--- where the trust rule holds, a sibling that is neither idle nor pending runs a task with the core cookie
+-- if the trust rule holds, a sibling that is neither idle nor pending runs a task with the core cookie
 runs_core_cookie : (room : RoomState) (k : ℕ) → IsSettled room → k < length room.siblings → is_pending room k ≡ false → is_busy room k ≡ true →
-    RunsShared room (Some room.core_cookie) k
+    RunsShared Cookie room (Some room.core_cookie) k
 runs_core_cookie room k settled below calm busy = by_online (and_parts (is_online room k) (is_some (sibling_of room k).run) busy) where
   its : (on : Bool) (found : Option Task) → on ≡ true → IsSomeAnd found (λ task. task.cookie ≡ room.core_cookie) →
       (cookie : ℕ) × (cond on (option_map (λ (task : Task). task.cookie) found) None ≡ Some cookie) × (Some room.core_cookie ≡ Some cookie)
@@ -61,7 +62,7 @@ runs_core_cookie room k settled below calm busy = by_online (and_parts (is_onlin
   its true None up same = absurd same
   its true (Some task) up same = (task.cookie, refl, ap Some (sym same))
 
-  by_online : (is_online room k ≡ true) × (is_some (sibling_of room k).run ≡ true) → RunsShared room (Some room.core_cookie) k
+  by_online : (is_online room k ≡ true) × (is_some (sibling_of room k).run ≡ true) → RunsShared Cookie room (Some room.core_cookie) k
   by_online parts =
       let up = parts.0 in
       let quiet : (sibling_of room k).pending ≡ false =
@@ -72,7 +73,7 @@ runs_core_cookie room k settled below calm busy = by_online (and_parts (is_onlin
         | inr same ↦ its (is_online room k) (running_on room k) up same
       ]
 
--- so where tasks with distinct cookies run side by side, some sibling is pending
+-- so if tasks with distinct cookies run side by side, some sibling is pending
 pub exposed_is_pending : (room : RoomState) → IsSettled room → is_exposed room ≡ true → some_pending room ≡ true
 exposed_is_pending room settled exposed =
     elim (cases_Bool (some_pending room)) [
@@ -80,7 +81,7 @@ exposed_is_pending room settled exposed =
       | inr none ↦
           let each_calm : (k : ℕ) → k < length room.siblings → is_pending room k ≡ false =
           λ k below. false_from_ne_true (is_pending room k) (λ is. both_ways (some_pending room) none (some_below (is_pending room) (length room.siblings) k below is)) in
-          absurd (both_ways (is_exposed room) (unexposed room (Some room.core_cookie) (λ k below busy. runs_core_cookie room k settled below (each_calm k below) busy)) exposed)
+          absurd (both_ways (is_exposed room) (none_apart Cookie room (Some room.core_cookie) (λ k below busy. runs_core_cookie room k settled below (each_calm k below) busy)) exposed)
     ]
 
 abbrev IsCovered : Span → Type 0
@@ -118,6 +119,6 @@ settled_so_far opening history playable events legal past rest is =
 
 -- In every legal history tasks with distinct cookies run side by side for no longer than some sibling is pending.
 pub exposed-le : (opening : Opening) (history : History) → IsPlayable opening.scenario → AreEvents opening history → IsLegal opening history →
-    (times_of opening history).exposed ≤ (times_of opening history).pending
+    (times_of opening history).exposed.all ≤ (times_of opening history).pending
 exposed-le opening history playable events legal =
     time_in-le is_exposed some_pending (spans_of opening history) (covered_from opening history [] history refl (settled_so_far opening history playable events legal))

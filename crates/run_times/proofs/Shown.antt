@@ -15,7 +15,8 @@ use Rattle.cs_types.specs.View.{cpu_view, task_after, task_view}
 use Rattle.cs_types.proofs.Foremost.{find_passes}
 use Rattle.cs_types.proofs.Inserted.{is_above}
 use Rattle.cs_laws.proofs.Rising.{Rises, AreRising, rising-fold_of, above_zero, above_next, above_none}
-use Rattle.run_times.specs.Doing.{cookie_run, has_queued}
+use Rattle.run_times.specs.declared.by.By.{By}
+use Rattle.run_times.specs.Doing.{key_of, key_run, has_queued}
 
 -- the tasks of a machine's history stand by rising pid
 pub rises_of : (opening : Opening) (history : History) → IsPlayable opening.scenario → AreRising (fold_of opening history)
@@ -123,18 +124,27 @@ running_shown room cpu rises = go (sibling_of room cpu).run where
   go None = sym (shown_zero room rises)
   go (Some pid) = refl
 
-cookie_shown : (room : RoomState) (task : Option Task) (shown : Option TaskView) → shown ≡ option_map (task_view room) task →
-    option_map (λ (t : TaskView). t.cookie) shown ≡ option_map (λ (t : Task). t.cookie) task
-cookie_shown room None shown is = ap (option_map (λ (t : TaskView). t.cookie)) is
-cookie_shown room (Some task) shown is = ap (option_map (λ (t : TaskView). t.cookie)) is
-
--- Its cookie is that of the task with the pid which an online sibling shows.
-pub cookie_online : (moment : Moment) (cpu : ℕ) (view : CpuView) (shown : Option TaskView) → AreRising moment.room → Some view ≡ cpu_view moment cpu → view.online ≡ true →
-    shown ≡ shown_at moment.room view.run → option_map (λ (t : TaskView). t.cookie) shown ≡ cookie_run moment.room cpu
-cookie_online moment cpu view shown rises is online found =
+-- What it is told apart by is that of the task with the pid which an online sibling shows.
+pub key_online : (by : By) (moment : Moment) (cpu key : ℕ) (view : CpuView) (shown : TaskView) → AreRising moment.room → Some view ≡ cpu_view moment cpu → view.online ≡ true →
+    Some shown ≡ shown_at moment.room view.run → ((room : RoomState) (task : Task) → shown ≡ task_view room task → key ≡ key_of by task) → Some key ≡ key_run by moment.room cpu
+key_online by moment cpu key view shown rises is online found told =
     let its = shown_cpu moment cpu view is in
-    cookie_shown moment.room (running_on moment.room cpu) shown (found ∙ ap (shown_at moment.room) its.1 ∙ running_shown moment.room cpu rises)
-    ∙ sym (cond-true (is_online moment.room cpu) (option_map (λ (t : Task). t.cookie) (running_on moment.room cpu)) None (sym its.0 ∙ online))
+    its_key (running_on moment.room cpu) (found ∙ ap (shown_at moment.room) its.1 ∙ running_shown moment.room cpu rises)
+    ∙ sym (cond-true (is_online moment.room cpu) (option_map (key_of by) (running_on moment.room cpu)) None (sym its.0 ∙ online)) where
+      its_key : (task : Option Task) → Some shown ≡ option_map (task_view moment.room) task → Some key ≡ option_map (key_of by) task
+      its_key None same = absurd cc
+      its_key (Some task) same = ap Some (told moment.room task cc)
+
+-- there is none if no task has it
+pub none_online : (by : By) (moment : Moment) (cpu : ℕ) (view : CpuView) → AreRising moment.room → Some view ≡ cpu_view moment cpu → view.online ≡ true →
+    None ≡ shown_at moment.room view.run → None ≡ key_run by moment.room cpu
+none_online by moment cpu view rises is online found =
+    let its = shown_cpu moment cpu view is in
+    none (running_on moment.room cpu) (found ∙ ap (shown_at moment.room) its.1 ∙ running_shown moment.room cpu rises)
+    ∙ sym (cond-true (is_online moment.room cpu) (option_map (key_of by) (running_on moment.room cpu)) None (sym its.0 ∙ online)) where
+      none : (task : Option Task) → None ≡ option_map (task_view moment.room) task → None ≡ option_map (key_of by) task
+      none None same = refl
+      none (Some task) same = absurd cc
 
 -- ---- the tasks queued on a sibling
 

@@ -8,9 +8,12 @@ use Rattle.cs_types.specs.declared.reply.Entry.{Entry}
 use Rattle.cs_types.specs.Room.{Opening, RoomState}
 use Rattle.cs_types.specs.History.{History, fold_of}
 use Rattle.run_times.specs.declared.siblings.SiblingTimes.{SiblingTimes}
-use Rattle.run_times.specs.Doing.{doing_of, is_pending, some_pending, is_exposed}
-use Rattle.run_times.specs.Times.{Span, advance_of, spans_of, total_time, time_in}
-use Rattle.run_times.specs.Sums.{sibling_times, did, with_span, Times, times_in, times_of}
+use Rattle.run_times.specs.declared.by.By.{By}
+use Rattle.run_times.specs.declared.by.By.TheVariants.{Cookie, Group}
+use Rattle.run_times.specs.declared.side_by_side.SideBySide.{SideBySide}
+use Rattle.run_times.specs.Doing.{doing_of, is_pending, some_pending, some_apart}
+use Rattle.run_times.specs.Times.{Span, advance_of, spans_of, total_time, time_in, longest}
+use Rattle.run_times.specs.Sums.{sibling_times, did, with_span, side_by_side, with_stretch, Times, times_in, times_of}
 use Rattle.run_times.proofs.Spans.{one_span, spans_of-advance, spans_of-still, total_time-push, time_in-push, lasting-push, longest-push, time_in-most, sibling_times-push, did-sibling_times}
 
 siblings-push : (n : ℕ) (spans : List Span) (room : RoomState) (time : ℕ) (old new : List SiblingTimes) → old ≡ map (sibling_times spans) (range_with_len 0 n) →
@@ -49,30 +52,40 @@ room_for_pending n spans old time most was fits k none few =
     omega (arith, same, time_in-most (λ room. is_pending room k) spans, fits)
 
 -- the times before the first advance
-pub times_in-none : (n : ℕ) (none : SiblingTimes) (items : List SiblingTimes) → ((cpu : ℕ) → none ≡ sibling_times [] cpu) → items ≡ replicate n none →
-    record { siblings = items; exposed = 0; lasting = 0; longest = 0; pending = 0; total = 0 } ≡ times_in n []
-times_in-none n none items zero is =
-    ap (λ (siblings : List SiblingTimes). record { siblings = siblings; exposed = 0; lasting = 0; longest = 0; pending = 0; total = 0 })
-    (is ∙ fill_by_all (sibling_times []) (replicate n none) n none (length-replicate n none) (λ k below. get_or-replicate n k none none below ∙ zero k))
+pub times_in-none : (n : ℕ) (none : SiblingTimes) (exposed mixed : SideBySide) (items : List SiblingTimes) → ((cpu : ℕ) → none ≡ sibling_times [] cpu) →
+    ((by : By) → exposed ≡ side_by_side by []) → ((by : By) → mixed ≡ side_by_side by []) → items ≡ replicate n none →
+    record { siblings = items; exposed = exposed; mixed = mixed; pending = 0; total = 0 } ≡ times_in n []
+times_in-none n none exposed mixed items zero unexposed unmixed is =
+    let siblings = is ∙ fill_by_all (sibling_times []) (replicate n none) n none (length-replicate n none) (λ k below. get_or-replicate n k none none below ∙ zero k) in
+    (λ i. record { siblings = siblings i; exposed = unexposed Cookie i; mixed = unmixed Group i; pending = 0; total = 0 })
+
+-- what runs side by side, with an advance more
+pub side_by_side-push : (by : By) (spans : List Span) (room : RoomState) (time : ℕ) →
+    with_stretch (some_apart by room) time (side_by_side by spans) ≡ side_by_side by (spans ++ one_span room time)
+side_by_side-push by spans room time =
+    let all = sym (time_in-push (some_apart by) spans room time) in
+    let lasts = sym (lasting-push (some_apart by) spans room time) in
+    let most = ap (λ (n : ℕ). max (longest (some_apart by) spans) n) lasts ∙ sym (longest-push (some_apart by) spans room time) in
+    (λ i. record { all = all i; lasting = lasts i; longest = most i })
 
 -- the times with an advance more
-pub times_of-advance : (opening : Opening) (history : History) (time : ℕ) (old : Times) (siblings : List SiblingTimes) (exposed lasts most pending : ℕ) (entry : Entry) →
+pub times_of-advance : (opening : Opening) (history : History) (time : ℕ) (old : Times) (siblings : List SiblingTimes) (exposed mixed : SideBySide) (pending : ℕ) (entry : Entry) →
     advance_of entry.event ≡ Some time →
     let room = fold_of opening history in
     old ≡ times_of opening history → length siblings ≡ length old.siblings →
     ((cpu : ℕ) (none : SiblingTimes) → cpu < length old.siblings → get_or siblings cpu none ≡ with_span (doing_of room cpu) (is_pending room cpu) time (get_or old.siblings cpu none)) →
-    exposed ≡ cond (is_exposed room) (old.exposed + time) old.exposed → lasts ≡ cond (is_exposed room) (old.lasting + time) 0 → most ≡ max old.longest lasts → pending ≡ cond (some_pending room) (old.pending + time) old.pending →
-    record { siblings = siblings; exposed = exposed; lasting = lasts; longest = most; pending = pending; total = old.total + time } ≡ times_of opening (history ++ entry ∷ [])
-times_of-advance opening history time old siblings exposed lasts most pending entry is was long each exposes goes_on reaches pends =
+    exposed ≡ with_stretch (some_apart Cookie room) time old.exposed → mixed ≡ with_stretch (some_apart Group room) time old.mixed →
+    pending ≡ cond (some_pending room) (old.pending + time) old.pending →
+    record { siblings = siblings; exposed = exposed; mixed = mixed; pending = pending; total = old.total + time } ≡ times_of opening (history ++ entry ∷ [])
+times_of-advance opening history time old siblings exposed mixed pending entry is was long each exposes mixes pends =
     let room = fold_of opening history in
     let spans = spans_of opening history in
     let sibs = siblings-push opening.scenario.siblings spans room time old.siblings siblings (ap (λ (t : Times). t.siblings) was) long each in
-    let side_by_side = exposes ∙ ap (λ (n : ℕ). cond (is_exposed room) (n + time) n) (ap (λ (t : Times). t.exposed) was) ∙ sym (time_in-push is_exposed spans room time) in
-    let lasts_now = goes_on ∙ ap (λ (n : ℕ). cond (is_exposed room) (n + time) 0) (ap (λ (t : Times). t.lasting) was) ∙ sym (lasting-push is_exposed spans room time) in
-    let most_now = reaches ∙ (λ i. max (ap (λ (t : Times). t.longest) was i) (lasts_now i)) ∙ sym (longest-push is_exposed spans room time) in
+    let by_cookie = exposes ∙ ap (with_stretch (some_apart Cookie room) time) (ap (λ (t : Times). t.exposed) was) ∙ side_by_side-push Cookie spans room time in
+    let by_group = mixes ∙ ap (with_stretch (some_apart Group room) time) (ap (λ (t : Times). t.mixed) was) ∙ side_by_side-push Group spans room time in
     let waited = pends ∙ ap (λ (n : ℕ). cond (some_pending room) (n + time) n) (ap (λ (t : Times). t.pending) was) ∙ sym (time_in-push some_pending spans room time) in
     let all = ap (λ (n : ℕ). n + time) (ap (λ (t : Times). t.total) was) ∙ sym (total_time-push spans room time) in
-    (λ i. record { siblings = sibs i; exposed = side_by_side i; lasting = lasts_now i; longest = most_now i; pending = waited i; total = all i })
+    (λ i. record { siblings = sibs i; exposed = by_cookie i; mixed = by_group i; pending = waited i; total = all i })
     ∙ ap (times_in opening.scenario.siblings) (sym (spans_of-advance opening history entry time is))
 
 -- and with any other entry more

@@ -1,12 +1,15 @@
 -- Sums: the times of a run.
-use Rattle.std.specs.Prelude.{ℕ, ◌+◌, ◌==◌, if◌then◌else◌, not, Bool, true, false, List, map}
+use Rattle.std.specs.Prelude.{ℕ, ◌+◌, max, ◌==◌, if◌then◌else◌, not, Bool, true, false, List, map}
 use Rattle.std.specs.List.{range_with_len}
 use Rattle.cs_types.specs.Room.{Opening}
 use Rattle.cs_types.specs.History.{History}
 use Rattle.run_times.specs.declared.doing.Doing.{Doing}
 use Rattle.run_times.specs.declared.doing.Doing.TheVariants.{Offline, Runs, Idles, ForcedIdle}
 use Rattle.run_times.specs.declared.siblings.SiblingTimes.{SiblingTimes}
-use Rattle.run_times.specs.Doing.{doing_of, is_pending, some_pending, is_exposed}
+use Rattle.run_times.specs.declared.by.By.{By}
+use Rattle.run_times.specs.declared.by.By.TheVariants.{Cookie, Group}
+use Rattle.run_times.specs.declared.side_by_side.SideBySide.{SideBySide}
+use Rattle.run_times.specs.Doing.{doing_of, is_pending, some_pending, some_apart}
 use Rattle.run_times.specs.Times.{Span, spans_of, total_time, time_in, lasting, longest}
 
 abbrev pub is_offline : Doing → Bool
@@ -59,15 +62,30 @@ with_span doing pending time times =
       pending = if pending then times.pending + time else times.pending;
     }
 
+-- for how long tasks that are told apart ran side by side in these spans: in all, without a break at their end, and the longest
+-- without a break
+abbrev pub side_by_side : By → List Span → SideBySide
+side_by_side by spans =
+    record {
+      all = time_in (some_apart by) spans;
+      lasting = lasting (some_apart by) spans;
+      longest = longest (some_apart by) spans;
+    }
+
+-- that with one span more, by whether they do in it
+abbrev pub with_stretch : Bool → ℕ → SideBySide → SideBySide
+with_stretch apart time past =
+    let lasts = if apart then past.lasting + time else 0 in
+    record { all = if apart then past.all + time else past.all; lasting = lasts; longest = max past.longest lasts }
+
 -- what is told of a run
 pub record Times : Type 0 where
   -- the times of each sibling, by rising number
   pub siblings : List SiblingTimes
-  -- the time in which tasks with distinct cookies ran side by side
-  pub exposed : ℕ
-  -- for how long they have now, without a break, and the longest that they did
-  pub lasting : ℕ
-  pub longest : ℕ
+  -- for how long tasks with distinct cookies ran side by side
+  pub exposed : SideBySide
+  -- for how long tasks of distinct thread groups did
+  pub mixed : SideBySide
   -- the time in which some sibling was pending
   pub pending : ℕ
   -- all time
@@ -78,9 +96,8 @@ abbrev pub times_in : ℕ → List Span → Times
 times_in siblings spans =
     record {
       siblings = map (sibling_times spans) (range_with_len 0 siblings);
-      exposed = time_in is_exposed spans;
-      lasting = lasting is_exposed spans;
-      longest = longest is_exposed spans;
+      exposed = side_by_side Cookie spans;
+      mixed = side_by_side Group spans;
       pending = time_in some_pending spans;
       total = total_time spans;
     }

@@ -8,10 +8,11 @@ ghost use Rattle.cs_types.specs.History.{fold_of, AreEvents};
 ghost use Rattle.cs_types.specs.View.{task_view};
 ghost use Rattle.run_times.specs.Doing as now;
 
+use crate::by::By;
 use crate::doing::Doing;
 use cs_types::{Cookie, Cpu, Pid, Room, TaskView};
 
-/// The living task with this pid. `None` where there is none.
+/// The living task with this pid. `None` if there is none.
 fn task_of<R: Room>(room: &R, pid: Pid) -> Option<TaskView>
     requires { IsPlayable (R.opening room.now).scenario }
     ensures { let state = fold_of (R.opening room.now) (R.history room.now) in
@@ -27,19 +28,28 @@ fn task_of<R: Room>(room: &R, pid: Pid) -> Option<TaskView>
     }
 }
 
-/// The cookie of the living task that a sibling runs. `None` if it is offline or runs no such task.
-pub fn cookie_run<R: Room>(room: &R, cpu: Cpu) -> Option<Cookie>
+/// What the living task that a sibling runs is told apart by: its cookie, or its thread group. `None` if the sibling is
+/// offline or runs no such task.
+pub fn key_run<R: Room>(room: &R, by: By, cpu: Cpu) -> Option<u64>
     requires { IsPlayable (R.opening room.now).scenario }
-    ensures { result ≡ now.cookie_run (fold_of (R.opening room.now) (R.history room.now)) cpu }
+    ensures { result ≡ now.key_run by (fold_of (R.opening room.now) (R.history room.now)) cpu }
 {
     match room.cpu(cpu) {
         Some(view) if view.online => match task_of(room, view.run) {
-            Some(task) => Some(task.cookie),
+            Some(task) => Some(by.key(task)),
             None => None,
         },
         Some(_) => None,
         None => None,
     }
+}
+
+/// The cookie of the living task that a sibling runs. `None` if it is offline or runs no such task.
+pub fn cookie_run<R: Room>(room: &R, cpu: Cpu) -> Option<Cookie>
+    requires { IsPlayable (R.opening room.now).scenario }
+    ensures { result ≡ now.cookie_run (fold_of (R.opening room.now) (R.history room.now)) cpu }
+{
+    key_run(room, By::Cookie, cpu)
 }
 
 /// Whether a task is queued on a sibling.
@@ -96,18 +106,18 @@ pub(crate) fn some_pending<R: Room>(room: &R) -> bool
     false
 }
 
-/// Whether two siblings that are online and do not run idle run tasks with distinct cookies.
-pub fn is_exposed<R: Room>(room: &R) -> bool
+/// Whether some two siblings that are online and do not run idle run tasks that are told apart.
+pub fn some_apart<R: Room>(room: &R, by: By) -> bool
     requires playable { IsPlayable (R.opening room.now).scenario }
     requires events { AreEvents (R.opening room.now) (R.history room.now) }
-    ensures { result ≡ now.is_exposed (fold_of (R.opening room.now) (R.history room.now)) }
+    ensures { result ≡ now.some_apart by (fold_of (R.opening room.now) (R.history room.now)) }
 {
     let mut shared = None;
     for cpu in 0..room.siblings() {
-        if let Some(cookie) = cookie_run(room, cpu) {
+        if let Some(key) = key_run(room, by, cpu) {
             match shared {
-                None => shared = Some(cookie),
-                Some(other) if other == cookie => {}
+                None => shared = Some(key),
+                Some(other) if other == key => {}
                 Some(_) => return true,
             }
         }

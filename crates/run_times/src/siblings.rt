@@ -1,9 +1,10 @@
 //! The times of one sibling.
 
-ghost use Rattle.std.specs.Prelude.{◌≡◌, ◌+◌, ◌≤◌, [], if◌then◌else◌};
+ghost use Rattle.std.specs.Prelude.{◌≡◌, ◌+◌, ◌≤◌, []};
 ghost use Rattle.run_times.specs.Sums.{sibling_times, did, with_span};
 
 use crate::doing::Doing;
+use crate::side_by_side::add_if;
 
 /// For how long a sibling did what, in ns. What it ran, idled, was forced idle and was offline add up to all time.
 #[derive(Clone, Copy)]
@@ -20,16 +21,6 @@ pub struct SiblingTimes {
     pub offline: u64,
     /// It was online and had a pending reschedule, whatever it ran.
     pub pending: u64,
-}
-
-/// Adds a time to a sum where it counts.
-pub(crate) fn add_where(sum: &mut u64, counts: bool, time: u64)
-    requires { sum.old + time ≤ u64.MAX }
-    ensures { sum.new ≡ (if counts then sum.old + time else sum.old) }
-{
-    if counts {
-        *sum += time;
-    }
 }
 
 impl SiblingTimes {
@@ -60,6 +51,6 @@ impl SiblingTimes {
             Doing::ForcedIdle(0) => self.forced_by_none += time,
             Doing::ForcedIdle(_) => self.forced_by_cookie += time,
         }
-        add_where(&mut self.pending, is_pending, time);
+        add_if(&mut self.pending, is_pending, time);
     }
 }

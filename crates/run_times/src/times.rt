@@ -8,8 +8,10 @@ ghost use Rattle.run_times.specs.Doing as now;
 ghost use Rattle.run_times.specs.Times as span;
 ghost use Rattle.run_times.specs.Sums.{did, with_span, times_in, times_of};
 
-use crate::looks::{doing_of, is_exposed, is_pending, some_pending};
-use crate::siblings::{SiblingTimes, add_where};
+use crate::by::By;
+use crate::looks::{doing_of, is_pending, some_apart, some_pending};
+use crate::siblings::SiblingTimes;
+use crate::side_by_side::{SideBySide, add_if};
 use cs_types::{Event, Room};
 use std::alloc::{AllocError, Global};
 use std::marker::Model;
@@ -18,10 +20,8 @@ use std::marker::Model;
 #[derive(Drop)]
 pub struct RunTimes {
     siblings: Vec<SiblingTimes>,
-    exposed: u64,
-    /// For how long the core has been exposed without a break, and the longest that it was.
-    lasting: u64,
-    longest: u64,
+    exposed: SideBySide,
+    mixed: SideBySide,
     pending: u64,
     total: u64,
 }
@@ -34,8 +34,7 @@ impl Model for RunTimes {
     ghost view = { λ times. record {
       siblings = times.siblings.items;
       exposed = times.exposed;
-      lasting = times.lasting;
-      longest = times.longest;
+      mixed = times.mixed;
       pending = times.pending;
       total = times.total;
     } };
@@ -60,15 +59,7 @@ fn add_to_each<R: Room>(siblings: &mut [SiblingTimes], room: &R, time: u64)
     }
 }
 
-/// For how long what had lasted has lasted after this time: it ends where it does not hold.
-fn longer_where(lasted: u64, holds: bool, time: u64) -> u64
-    requires { lasted + time ≤ u64.MAX }
-    ensures { result ≡ (if holds then lasted + time else 0) }
-{
-    if holds { lasted + time } else { 0 }
-}
-
-/// How far an event moves the clock, in ns. `None` where it is no advance.
+/// How far an event moves the clock, in ns. `None` if it is no advance.
 pub fn advance_of(event: Event) -> Option<u64>
     ensures { result ≡ span.advance_of event }
 {
@@ -97,9 +88,8 @@ impl RunTimes {
     {
         Ok(RunTimes {
             siblings: vec![in alloc; SiblingTimes::none(); usize::from(siblings)]?,
-            exposed: 0,
-            lasting: 0,
-            longest: 0,
+            exposed: SideBySide::none(),
+            mixed: SideBySide::none(),
             pending: 0,
             total: 0,
         })
@@ -115,12 +105,9 @@ impl RunTimes {
             self.new ≡ times_of (R.opening room.now) (R.history room.now ++ entry ∷ []) }
     {
         add_to_each(self.siblings.as_mut_slice(), room, time);
-        let exposed = is_exposed(room);
-        add_where(&mut self.exposed, exposed, time);
-        let lasting = longer_where(self.lasting, exposed, time);
-        self.longest = self.longest.max(lasting);
-        self.lasting = lasting;
-        add_where(&mut self.pending, some_pending(room), time);
+        self.exposed.add(some_apart(room, By::Cookie), time);
+        self.mixed.add(some_apart(room, By::Group), time);
+        add_if(&mut self.pending, some_pending(room), time);
         self.total += time;
     }
 
@@ -147,19 +134,18 @@ impl RunTimes {
         self.siblings.as_slice()
     }
 
-    /// For how long two siblings that are online ran tasks with distinct cookies, in ns.
-    pub fn exposed(&self) -> u64
+    /// For how long siblings that are online ran tasks with distinct cookies.
+    pub fn exposed(&self) -> SideBySide
         ensures { result ≡ self.now.exposed }
     {
         self.exposed
     }
 
-    /// The longest time without a break for which two online siblings ran tasks with distinct cookies, in ns, 0 where
-    /// they never did.
-    pub fn longest_exposed(&self) -> u64
-        ensures { result ≡ self.now.longest }
+    /// For how long siblings that are online ran tasks of distinct thread groups, whatever their cookies.
+    pub fn mixed(&self) -> SideBySide
+        ensures { result ≡ self.now.mixed }
     {
-        self.longest
+        self.mixed
     }
 
     /// For how long some sibling was online and had a pending reschedule, in ns.

@@ -3,7 +3,7 @@ use Rattle.std.specs.Prelude.{ℕ, Bool, true, false, Option, Some, None, List, 
 use Rattle.std.specs.List.{flat_map, join_with_byte, zip}
 use Rattle.run_segments.specs.declared.segments.Segment.{Segment}
 use Rattle.scenario_text.specs.Words.{Word}
-use Rattle.segment_text.specs.Cells.{columns, state_word, cookie_of, is_forced, pid_of}
+use Rattle.segment_text.specs.Cells.{columns, state_word, cookie_of, is_forced, pid_of, group_of}
 
 -- a word in quotes; no word here needs escapes
 abbrev pub quoted : Word → Word
@@ -14,7 +14,7 @@ abbrev pub truth_value : Bool → Word
 truth_value true = codes "true"
 truth_value false = codes "false"
 
--- a number, or `null` where there is none
+-- a number, or `null` if there is none
 abbrev pub number_or_null : Option ℕ → Word
 number_or_null None = codes "null"
 number_or_null (Some number) = decimal number
@@ -23,7 +23,8 @@ number_or_null (Some number) = decimal number
 abbrev pub values_of : Segment → List Word
 values_of segment =
     decimal segment.from ∷ decimal segment.to ∷ decimal segment.cpu ∷ quoted (state_word segment.doing) ∷ number_or_null (cookie_of segment.doing)
-    ∷ truth_value segment.pending ∷ truth_value (is_forced segment.doing) ∷ number_or_null (pid_of segment.pid) ∷ []
+    ∷ truth_value segment.pending ∷ truth_value (is_forced segment.doing) ∷ number_or_null (pid_of segment.pid)
+    ∷ number_or_null (group_of segment.group) ∷ []
 
 -- a member of an object: its name and its value
 abbrev pub member : Word × Word → List ℕ

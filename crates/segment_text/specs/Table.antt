@@ -3,9 +3,9 @@ use Rattle.std.specs.Prelude.{ℕ, Option, Some, None, List, [], ◌∷◌, ◌+
 use Rattle.std.specs.List.{flat_map, join_with_byte}
 use Rattle.run_segments.specs.declared.segments.Segment.{Segment}
 use Rattle.scenario_text.specs.Words.{Word, answer_word}
-use Rattle.segment_text.specs.Cells.{columns, state_word, cookie_of, is_forced, pid_of}
+use Rattle.segment_text.specs.Cells.{columns, state_word, cookie_of, is_forced, pid_of, group_of}
 
--- a number, or an empty cell where there is none
+-- a number, or an empty cell if there is none
 abbrev pub number_cell : Option ℕ → Word
 number_cell None = []
 number_cell (Some number) = decimal number
@@ -14,7 +14,8 @@ number_cell (Some number) = decimal number
 abbrev pub cells_of : Segment → List Word
 cells_of segment =
     decimal segment.from ∷ decimal segment.to ∷ decimal segment.cpu ∷ state_word segment.doing ∷ number_cell (cookie_of segment.doing)
-    ∷ answer_word segment.pending ∷ answer_word (is_forced segment.doing) ∷ number_cell (pid_of segment.pid) ∷ []
+    ∷ answer_word segment.pending ∷ answer_word (is_forced segment.doing) ∷ number_cell (pid_of segment.pid)
+    ∷ number_cell (group_of segment.group) ∷ []
 
 -- cells with a tab between two, and a line feed
 abbrev pub tabbed : List Word → List ℕ

@@ -18,7 +18,7 @@ pub(crate) fn state_word(doing: Doing) -> &'static str
     }
 }
 
-/// The cookie of the task that a sibling runs, or that of the core where it is forced idle.
+/// The cookie of the task that a sibling runs, or that of the core if it is forced idle.
 pub(crate) fn cookie_of(doing: Doing) -> Option<Cookie>
     ensures { result ≡ told.cookie_of doing }
 {
@@ -35,9 +35,16 @@ pub(crate) fn is_forced(doing: Doing) -> bool
     matches!(doing, Doing::ForcedIdle(_))
 }
 
-/// The pid of the task that a sibling runs, where it runs one.
+/// The pid of the task that a sibling runs, if it runs one.
 pub(crate) fn pid_of(pid: Pid) -> Option<u64>
     ensures { result ≡ told.pid_of pid }
 {
     if pid == 0 { None } else { Some(u64::from(pid)) }
+}
+
+/// The thread group of the task that a sibling runs, if it runs one.
+pub(crate) fn group_of(group: u64) -> Option<u64>
+    ensures { result ≡ told.group_of group }
+{
+    if group == 0 { None } else { Some(group) }
 }

@@ -6,12 +6,12 @@ ghost use Rattle.cs_outside.specs.Device.{appended, Rose, WritesPrefix};
 ghost use Rattle.scenario_text.specs.Text.{line_bytes};
 ghost use Rattle.segment_text.specs.Json.{number_or_null, truth_value, object_line, segments_json_text};
 
-use crate::cells::{cookie_of, is_forced, pid_of, state_word};
+use crate::cells::{cookie_of, group_of, is_forced, pid_of, state_word};
 use cs_outside::{Failed, Sink, write_all};
 use run_segments::{RunSegments, Segment};
 use scenario_text::Line;
 
-/// Puts a number on the line, or `null` where there is none.
+/// Puts a number on the line, or `null` if there is none.
 fn put_number(line: &mut Line, number: Option<u64>)
     requires { length line.old + 20 ≤ line_bytes }
     ensures text { line.new ≡ line.old ++ number_or_null number }
@@ -60,6 +60,8 @@ fn write_object<K: Sink>(segment: &Segment, sink: &mut K) -> Result<(), Failed>
     put_truth(&mut line, is_forced(segment.doing));
     line.text(",\"pid\":");
     put_number(&mut line, pid_of(segment.pid));
+    line.text(",\"group\":");
+    put_number(&mut line, group_of(segment.group));
     line.text("}\n");
     write_all(sink, line.as_bytes())
 }

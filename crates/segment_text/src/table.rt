@@ -6,15 +6,15 @@ ghost use Rattle.scenario_text.specs.Words.{answer_word};
 ghost use Rattle.scenario_text.specs.Text.{line_bytes};
 ghost use Rattle.segment_text.specs.Table.{number_cell, row_text, segments_text};
 
-use crate::cells::{cookie_of, is_forced, pid_of, state_word};
+use crate::cells::{cookie_of, group_of, is_forced, pid_of, state_word};
 use cs_outside::{Failed, Sink, write_all};
 use run_segments::{RunSegments, Segment};
 use scenario_text::Line;
 
 /// The names of the columns.
-const HEAD: &str = "from\tto\tsibling\tstate\tcookie\tpending\tforced\tpid\n";
+const HEAD: &str = "from\tto\tsibling\tstate\tcookie\tpending\tforced\tpid\tgroup\n";
 
-/// Puts a number on the line, or nothing where there is none.
+/// Puts a number on the line, or nothing if there is none.
 fn put_number(line: &mut Line, number: Option<u64>)
     requires { length line.old + 20 ≤ line_bytes }
     ensures text { line.new ≡ line.old ++ number_cell number }
@@ -54,12 +54,14 @@ fn row_of(segment: &Segment) -> Line
     put_answer(&mut line, is_forced(segment.doing));
     line.text("\t");
     put_number(&mut line, pid_of(segment.pid));
+    line.text("\t");
+    put_number(&mut line, group_of(segment.group));
     line.text("\n");
     line
 }
 
 /// Writes the table of a run's segments: the names of the columns, and a line for each segment. The cells of a line are
-/// separated by tabs. Each line goes to the sink in one piece, and again with the rest where the sink took only a part. At
+/// separated by tabs. Each line goes to the sink in one piece, and again with the rest if the sink took only a part. At
 /// an `Err` the sink has failed, and a prefix of the table is written. It takes no memory.
 pub fn segments<K: Sink>(run: &RunSegments, sink: &mut K) -> Result<(), Failed>
     ensures ok { OnOk result (K.written sink.new ≡ appended (K.written sink.old) (segments_text run.now)) }

@@ -38,6 +38,11 @@ pub pair_text : (low high exposed : Word) →
     ≡ line (codes "pair" ∷ low ∷ high ∷ codes "exposed" ∷ exposed ∷ [])
 pair_text low high exposed = simp append_assoc
 
+pub groups_text : (low high mixed : Word) →
+    ((((((codes "groups " ++ low) ++ codes " ") ++ high) ++ codes " mixed ") ++ mixed) ++ codes "\n")
+    ≡ line (codes "groups" ∷ low ∷ high ∷ codes "mixed" ∷ mixed ∷ [])
+groups_text low high mixed = simp append_assoc
+
 pub replies_text : (no_task awake idle no_caller offline errors : Word) →
     ((((((((((((codes "replies NoTask " ++ no_task) ++ codes " Awake ") ++ awake) ++ codes " Idle ") ++ idle) ++ codes " NoCaller ") ++ no_caller)
     ++ codes " Offline ") ++ offline) ++ codes " errors ") ++ errors) ++ codes "\n")

@@ -2,11 +2,12 @@
 
 ghost use Rattle.std.specs.Prelude.{◌≡◌};
 ghost use Rattle.scenario_text.specs.Text.{line};
-ghost use Rattle.times_report.specs.Summary.{cpu_words, forced_words, exposed_words, pair_words, pending_words, replies_words, total_words};
+ghost use Rattle.times_report.specs.Summary.{cpu_words, forced_words, side_words, pair_words, pending_words, replies_words, total_words};
+ghost use Rattle.run_times.specs.declared.by.By.TheVariants.{Cookie, Group};
 
-use exposed_pairs::PairTime;
+use pair_times::PairTime;
 use run_summary::ReplyCounts;
-use run_times::{RunTimes, SiblingTimes};
+use run_times::{By, RunTimes, SiblingTimes, SideBySide};
 use scenario_text::Line;
 
 pub(crate) fn cpu_line(cpu: usize, times: &SiblingTimes) -> Line
@@ -41,19 +42,23 @@ pub(crate) fn forced_line(cpu: usize, times: &SiblingTimes) -> Line
     line
 }
 
-pub(crate) fn exposed_line(times: &RunTimes) -> Line
-    ensures { result ≡ line (exposed_words times.now) }
+pub(crate) fn side_line(by: By, times: SideBySide) -> Line
+    ensures { result ≡ line (side_words by times) }
 {
     let mut line = Line::new();
-    line.named("exposed", times.exposed());
+    match by {
+        By::Cookie => line.named("exposed", times.all),
+        By::Group => line.named("mixed", times.all),
+    }
     line.text(" ");
-    line.named("longest", times.longest_exposed());
+    line.named("longest", times.longest);
     line.text("\n");
     line
 }
 
-pub(crate) fn pair_line(pair: &PairTime) -> Line
-    ensures { result ≡ line (pair_words pair.now) }
+/// The line of a pair of cookies.
+fn cookie_pair_line(pair: &PairTime) -> Line
+    ensures { result ≡ line (pair_words Cookie pair.now) }
 {
     let mut line = Line::new();
     line.text("pair ");
@@ -61,9 +66,33 @@ pub(crate) fn pair_line(pair: &PairTime) -> Line
     line.text(" ");
     line.number(pair.high);
     line.text(" exposed ");
-    line.number(pair.exposed);
+    line.number(pair.time);
     line.text("\n");
     line
+}
+
+/// The line of a pair of thread groups.
+fn group_pair_line(pair: &PairTime) -> Line
+    ensures { result ≡ line (pair_words Group pair.now) }
+{
+    let mut line = Line::new();
+    line.text("groups ");
+    line.number(pair.low);
+    line.text(" ");
+    line.number(pair.high);
+    line.text(" mixed ");
+    line.number(pair.time);
+    line.text("\n");
+    line
+}
+
+pub(crate) fn pair_line(by: By, pair: &PairTime) -> Line
+    ensures { result ≡ line (pair_words by pair.now) }
+{
+    match by {
+        By::Cookie => cookie_pair_line(pair),
+        By::Group => group_pair_line(pair),
+    }
 }
 
 pub(crate) fn pending_line(times: &RunTimes) -> Line

@@ -24,7 +24,11 @@ use Rattle.scenario_runner.specs.Written.{IsWritten}
 use Rattle.segment_text.specs.Table.{segments_text}
 use Rattle.segment_text.specs.Json.{segments_json_text}
 use Rattle.view_runner.specs.Ends.{IsTaken, AreSegmentsOf, IsTold, EndsAsTold, EndsAsShown}
-use Rattle.view_runner.specs.Written.{WritesTold, MayWriteTold, IsShown, IsFormWritten, MayWriteForm, EndsInForm}
+use Rattle.run_summary.specs.Summaries.{Summary, IsSummaryOf}
+use Rattle.times_report.specs.Summary.{summary_text}
+use Rattle.view_runner.specs.Written.{WritesTold, MayWriteTold, IsShown, IsFormWritten, MayWriteForm, EndsInForm, IsTellingOf, MayTell, EndsTelling}
+use Rattle.view_runner.specs.declared.played.SummaryForm.{SummaryForm}
+use Rattle.view_runner.specs.declared.played.SummaryForm.TheVariants as summary_form
 use Rattle.view_runner.specs.declared.shown.Form.{Form}
 use Rattle.view_runner.specs.declared.shown.Form.TheVariants.{Table, Json, Picture}
 
@@ -122,7 +126,7 @@ module _ {T : Type 0} (IsOf : Opening → History → T → Type 0) (text : T �
         stopped = λ _ _. ends_stopped IsReplayHistory caps source sink read stop has is same;
       }
 
--- ---- how a command ends that draws a run
+-- ---- how a command ends that shows a run to a person
 
 -- the input was played
 ends_shown : {S K T : Type 0} (caps : List ℕ) (source : Used S) (sink : Used K) (read : Result T Stop) (value : T) (scenario : Scenario) (opening : Opening) (ended : Status) →
@@ -183,3 +187,37 @@ pub written_in_form : {K : Type 0} (form : Form) (opening : Opening) (steps : Li
 written_in_form Table opening steps sink ended run segments drained of_run written = inl (record { run = run; drained = drained; told = segments; of_run = of_run; written = written })
 written_in_form Json opening steps sink ended run segments drained of_run written = inl (record { run = run; drained = drained; told = segments; of_run = of_run; written = written })
 written_in_form Picture opening steps sink ended run segments drained of_run shown = shown
+
+-- ---- how a command ends that tells the summary in a form
+
+-- the input was played
+pub ends_telling : {S K T : Type 0} (form : SummaryForm) (caps : List ℕ) (source : Used S) (sink : Used K) (read : Result T Stop) (value : T) (scenario : Scenario) (opening : Opening) (steps : List Step) (ended : Status) →
+    HasRead caps source read → read ≡ Ok value → IsOpened caps source scenario opening → steps ≡ scenario.steps → sink.faults sink.before < 2 ^ 64 - 1 →
+    MayTell form opening steps sink ended → EndsTelling form caps source sink ended
+ends_telling summary_form.Lines caps source sink read value scenario opening steps ended has is opened all few writes =
+    ends_told IsSummaryOf summary_text caps source sink read value scenario opening steps ended has is opened all few writes
+ends_telling summary_form.Table caps source sink read value scenario opening steps ended has is opened all few writes =
+    ends_shown caps source sink read value scenario opening ended has is opened few writes
+
+-- the input was not played
+pub ends_not_telling : {S K T : Type 0} (form : SummaryForm) (caps : List ℕ) (source : Used S) (sink : Used K) (read : Result T Stop) (stop : Stop) →
+    HasRead caps source read → read ≡ Err stop → sink.after ≡ sink.before → EndsTelling form caps source sink (status_of stop)
+ends_not_telling summary_form.Lines caps source sink read stop has is same = ends_refused IsSummaryOf summary_text caps source sink read stop has is same
+ends_not_telling summary_form.Table caps source sink read stop has is same = ends_unshown caps source sink read stop has is same
+
+-- this summary of the run was told in a form, or the sink failed
+pub told_in_form : {K : Type 0} (form : SummaryForm) (opening : Opening) (steps : List Step) (sink : Used K) (ended : Status) (run : History) (told : Summary) →
+    IsDrained opening (history_of opening steps) run → IsSummaryOf opening run told → IsTellingOf form told sink ended → MayTell form opening steps sink ended
+told_in_form summary_form.Lines opening steps sink ended run told drained of_run written = inl (record { run = run; drained = drained; told = told; of_run = of_run; written = written })
+told_in_form summary_form.Table opening steps sink ended run told drained of_run shown = shown
+
+-- there was no memory for it
+pub told_short : {K : Type 0} (form : SummaryForm) (opening : Opening) (steps : List Step) (sink : Used K) → sink.after ≡ sink.before → MayTell form opening steps sink status.OutOfMemory
+told_short summary_form.Lines opening steps sink same = inr (record { memory = refl; unwritten = same })
+told_short summary_form.Table opening steps sink same =
+    record {
+      either = inr (inr refl);
+      faultless = λ done. let wrong : status.OutOfMemory ≡ status.Done = done in absurd cc;
+      failed = λ fault. let wrong : status.OutOfMemory ≡ status.WriteFault = fault in absurd cc;
+      unwritten = λ _. same;
+    }

@@ -37,7 +37,7 @@ AreSegmentsOf opening history segments = segments ≡ segments_of opening histor
 pub record IsTold {S T : Type 0} (IsOf : Opening → History → T → Type 0) (caps : List ℕ) (source : Used S) (told : T) : Type 0 where
   pub scenario : Scenario
   pub taken : IsTaken caps source scenario
-  -- the history is the file's steps in order, and then the entries of the end. No other is.
+  -- the history is the file's steps in order, and then the final drain. No other is.
   pub run : History
   pub drained : IsDrained (opened_with caps scenario) (file (opened_with caps scenario)) run
   pub alone : (other : History) → IsDrained (opened_with caps scenario) (file (opened_with caps scenario)) other → other ≡ run
@@ -46,20 +46,21 @@ pub record IsTold {S T : Type 0} (IsOf : Opening → History → T → Type 0) (
 
 -- How a command ends that tells something of a run, in this text of it. Out of memory alone is free.
 pub record EndsAsTold {S K T : Type 0} (IsOf : Opening → History → T → Type 0) (text : T → List ℕ) (caps : List ℕ) (source : Used S) (sink : Used K) (status : Status) : Type 0 where
-  -- where it is done, what was written is what is told of a replay of the input
+  -- if it is done, what was written is what is told of a replay of the input
   pub done : status ≡ Done → IsFaultless sink × ((told : T) × IsTold IsOf caps source told × (sink.bytes sink.after ≡ appended (sink.bytes sink.before) (text told)))
-  -- it ends in a write fault only where the sink failed, and then a prefix of that was written
+  -- it ends in a write fault only if the sink failed, and then a prefix of that was written
   pub write_fault : status ≡ WriteFault → FaultsRose sink × ((told : T) × IsTold IsOf caps source told × WritesPrefix (sink.bytes sink.before) (text told) (sink.bytes sink.after))
   -- its own word is never bad
   pub good_words : status ≢ BadWords
   -- else nothing is written, and it ends as a replay of the same input ends
   pub stopped : status ≢ Done → status ≢ WriteFault → EndsAsReplay caps source sink status
 
--- How a command ends that draws a run. What it draws is not said here. Out of memory alone is free.
+-- How a command ends that shows a run to a person, as a picture or as a table. What it shows is not said here. Out of memory
+-- alone is free.
 pub record EndsAsShown {S K : Type 0} (caps : List ℕ) (source : Used S) (sink : Used K) (status : Status) : Type 0 where
-  -- where it is done, the input was read as a scenario, and no fault of the sink was counted
+  -- if it is done, the input was read as a scenario, and no fault of the sink was counted
   pub done : status ≡ Done → IsFaultless sink × ((scenario : Scenario) × IsTaken caps source scenario)
-  -- it ends in a write fault only where the sink failed, and then the input was read as a scenario too
+  -- it ends in a write fault only if the sink failed, and then the input was read as a scenario too
   pub write_fault : status ≡ WriteFault → FaultsRose sink × ((scenario : Scenario) × IsTaken caps source scenario)
   -- its own word is never bad
   pub good_words : status ≢ BadWords
@@ -69,6 +70,7 @@ pub record EndsAsShown {S K : Type 0} (caps : List ℕ) (source : Used S) (sink 
 -- how each command ends
 abbrev pub EndsBy : {S K : Type 0} → Command → List ℕ → Used S → Used K → Status → Type 0
 EndsBy command.Summary caps source sink status = EndsAsTold IsSummaryOf summary_text caps source sink status
+EndsBy command.Table caps source sink status = EndsAsShown caps source sink status
 EndsBy command.Segments caps source sink status = EndsAsTold AreSegmentsOf segments_text caps source sink status
 EndsBy command.SegmentsJson caps source sink status = EndsAsTold AreSegmentsOf segments_json_text caps source sink status
 EndsBy command.Picture caps source sink status = EndsAsShown caps source sink status

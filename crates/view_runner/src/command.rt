@@ -6,7 +6,7 @@ ghost use Rattle.view_words.specs.Asks.{Asks};
 ghost use Rattle.ptrace_check.specs.Guards.{AreFresh};
 ghost use Rattle.view_runner.specs.Ends.{EndsBy};
 
-use crate::played::summarized;
+use crate::played::{SummaryForm, summarized};
 use crate::shown::{Form, shown};
 use cs_outside::{Guard, Sink, Source};
 use cs_types::FromScenario;
@@ -19,7 +19,7 @@ use view_words::{Command, command_of};
 /// `coresched replay` does, and writes what the command of the words shows of the run. It waits for nobody and always
 /// returns.
 ///
-/// With the word `summary` it writes for how long what was so, with `segments` and `segments-json` what each sibling did
+/// With the word `summary` it writes for how long what was so, with `table` the same for a person, with `segments` and `segments-json` what each sibling did
 /// when, as a table and as lines of JSON, and with `picture` the same, drawn. Other words are refused.
 /// Both counts of faults have to be below 2^64 - 1. At most 16 guards are handed in, which refuse nobody yet and were never
 /// asked. The scenario teaches them before it is played, and they are dropped at the end. `R` is the machine that plays
@@ -46,7 +46,12 @@ pub fn run<R: FromScenario<Guards<G>>, S: Source, K: Sink, G: Guard>(
     ensures unwritten { result ≡ Status.BadWords → sink.new ≡ sink.old }
 {
     match command_of(alloc, words) {
-        Some(Command::Summary) => summarized::<R, S, K, G>(alloc, source, sink, guards),
+        Some(Command::Summary) => {
+            summarized::<R, S, K, G>(alloc, SummaryForm::Lines, source, sink, guards)
+        }
+        Some(Command::Table) => {
+            summarized::<R, S, K, G>(alloc, SummaryForm::Table, source, sink, guards)
+        }
         Some(Command::Segments) => shown::<R, S, K, G>(alloc, Form::Table, source, sink, guards),
         Some(Command::SegmentsJson) => shown::<R, S, K, G>(alloc, Form::Json, source, sink, guards),
         Some(Command::Picture) => shown::<R, S, K, G>(alloc, Form::Picture, source, sink, guards),

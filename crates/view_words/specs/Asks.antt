@@ -3,11 +3,12 @@ use Rattle.std.specs.Prelude.{◌≡◌, ℕ, List, [], ◌∷◌, map, codes, S
 use Rattle.std.specs.declared.alloc.Global.{Global}
 use Rattle.std.specs.String.{string_bytes}
 use Rattle.view_words.specs.declared.command.Command.{Command}
-use Rattle.view_words.specs.declared.command.Command.TheVariants.{Summary, Segments, SegmentsJson, Picture}
+use Rattle.view_words.specs.declared.command.Command.TheVariants.{Summary, Table, Segments, SegmentsJson, Picture}
 
 -- the word of a command
 abbrev pub word_of : Command → List ℕ
 word_of Summary = codes "summary"
+word_of Table = codes "table"
 word_of Segments = codes "segments"
 word_of SegmentsJson = codes "segments-json"
 word_of Picture = codes "picture"

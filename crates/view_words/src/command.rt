@@ -12,6 +12,8 @@ use std::alloc::Global;
 pub enum Command {
     /// `summary`: for how long what was so.
     Summary,
+    /// `table`: the same, for a person.
+    Table,
     /// `segments`: what each sibling did when, as a table.
     Segments,
     /// `segments-json`: the same, as lines of JSON.
@@ -21,9 +23,13 @@ pub enum Command {
 }
 
 /// The forms of the commands.
-const FORMS: [CommandForm<'static>; 4] = [
+const FORMS: [CommandForm<'static>; 5] = [
     CommandForm {
         name: "summary",
+        takes_value: false,
+    },
+    CommandForm {
+        name: "table",
         takes_value: false,
     },
     CommandForm {
@@ -47,6 +53,7 @@ fn named(name: &str, value: Option<&str>) -> Option<Command>
 {
     match (name, value) {
         ("summary", None) => Some(Command::Summary),
+        ("table", None) => Some(Command::Table),
         ("segments", None) => Some(Command::Segments),
         ("segments-json", None) => Some(Command::SegmentsJson),
         ("picture", None) => Some(Command::Picture),

@@ -1,6 +1,7 @@
 use Rattle.std.proofs.Common.{◌≡◌, true, sym, ◌∙◌}
 use Rattle.cs_types.specs.Room.{is_online}
 use Rattle.cs_types.specs.History.{fold_of, moment_of}
+use Rattle.run_times.specs.declared.by.By.TheVariants.{Cookie}
 use Rattle.run_times.proofs.Shown.{rises_of, shown_cpu}
 use Rattle.run_times.proofs.Busy.{IsQueued, runs_idle, does_idle}
 use Rattle.run_segments.proofs.Runs.{pid_shown, pid_idle}
@@ -18,7 +19,7 @@ returns-in-None-clause-pid g c =
     let cpu = c.args.cpu in
     let queued : IsQueued room cpu = (g.met.R.Room.consistent c.args.room.now c.requires.playable c.requires.events cpu c.requires.cpu).running_is_queued in
     let up : is_online room cpu ≡ true = sym (shown_cpu (moment_of opening history) cpu c.in-Some.view c.in-Some.ensures.view).0 ∙ c.if-view.true in
-    sym (pid_idle room cpu (runs_idle room cpu (rises_of opening history c.requires.playable) queued up c.in-None.ensures))
+    sym (pid_idle room cpu (runs_idle Cookie room cpu (rises_of opening history c.requires.playable) queued up c.in-None.ensures))
 
 pub returns-in-None-clause-doing : goal.returns-in-None-clause-doing
 returns-in-None-clause-doing g c =

@@ -1,7 +1,7 @@
 use Rattle.std.proofs.Common.{◌≡◌, ◌+◌, ◌≤◌, take, drop, sum_by}
 use Rattle.cs_types.specs.History.{history_of, AreEvents}
-use Rattle.exposed_pairs.specs.Pairs.{most_rows}
-use Rattle.run_summary.specs.Summaries.{ArePartsOf}
+use Rattle.pair_times.specs.Pairs.{most_rows}
+use Rattle.run_summary.specs.Summaries.{spare_rows, ArePartsOf}
 use Rattle.run_summary.proofs.run.play.Given as goal
 
 abbrev pub invariant-loop-step : goal.invariant-loop-step
@@ -14,5 +14,5 @@ invariant-loop-step g l =
       events : AreEvents (room.opening l.room) (room.history l.room);
       parts : ArePartsOf (room.opening l.room) (room.history l.room) l.summary;
       entries : l.summary.tasks.entries ≡ l.fn.summary.tasks.entries;
-      rows : sum_by (λ step. most_rows (room.opening l.fn.room).scenario.siblings step.event) (drop l.step-index l.steps) ≤ l.summary.pairs.spare;
+      rows : sum_by (λ step. most_rows (room.opening l.fn.room).scenario.siblings step.event) (drop l.step-index l.steps) ≤ spare_rows l.summary;
     }

@@ -15,7 +15,7 @@ use Rattle.run_summary.specs.declared.replies.ReplyCounts.{ReplyCounts}
 use Rattle.run_summary.specs.Replies.{count_of, all_refused}
 use Rattle.run_summary.specs.Summaries.{ArePartsOf}
 use Rattle.run_summary.proofs.Counts.{refused_adds_up}
-use Rattle.run_summary.proofs.Drained.{parts_of-drained, pairs-le}
+use Rattle.run_summary.proofs.Drained.{parts_of-drained, cookie_pairs-le, group_pairs-le}
 use Rattle.run_summary.proofs.run.summarized_run.Goals as goal
 
 pub play-requires-clause-parts : goal.play-requires-clause-parts
@@ -41,13 +41,17 @@ returns-clause-exposed g c =
     let ended = g.R.Room.history c.drain.new.self in
     let same : times_of opening history ≡ times_of (g.R.Room.opening c.drain.new.self) ended =
     times_of-drained opening history ended c.drain.ensures.entries ∙ ap (λ (o : Opening). times_of o ended) (sym c.drain.ensures.opening) in
-    subst (λ (times : Times). times.exposed ≤ times.pending) (same ∙ sym c.end.ensures.summary.times)
+    subst (λ (times : Times). times.exposed.all ≤ times.pending) (same ∙ sym c.end.ensures.summary.times)
     (exposed-le opening history (subst (λ (o : Opening). IsPlayable o.scenario) (sym c.play.ensures.opening) c.siblings.ensures.playable)
     c.play.ensures.events (g.met.R.Room.legal c.play.new.room))
 
-pub returns-clause-pairs : goal.returns-clause-pairs
-returns-clause-pairs g c =
-    pairs-le (g.R.Room.opening c.drain.new.self) (g.R.Room.history c.drain.new.self) c.end.new.self c.end.ensures.summary
+pub returns-clause-cookie_pairs : goal.returns-clause-cookie_pairs
+returns-clause-cookie_pairs g c =
+    cookie_pairs-le (g.R.Room.opening c.drain.new.self) (g.R.Room.history c.drain.new.self) c.end.new.self c.end.ensures.summary
+
+pub returns-clause-group_pairs : goal.returns-clause-group_pairs
+returns-clause-group_pairs g c =
+    group_pairs-le (g.R.Room.opening c.drain.new.self) (g.R.Room.history c.drain.new.self) c.end.new.self c.end.ensures.summary
 
 pub returns-clause-refused : goal.returns-clause-refused
 returns-clause-refused g c =

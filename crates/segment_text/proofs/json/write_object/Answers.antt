@@ -18,7 +18,7 @@ returns-clause-ok g c =
     (λ sent. both_out c.args.segment.now _ _ _ _ _
     (c.as_bytes.ensures ∙ put_told _ _ _ _ _ (put _ _ _ _ (put_told _ _ _ _ _ (put _ _ _ _ (put _ _ _ _ (put _ _ _ _ (put _ _ _ _ (put _ _ _ _ (put _ _ _ _ (put _ _ _ _ (c.new-line.ensures) c.text.ensures.text) c.number.ensures.text) c.text-2.ensures.text) c.number-2.ensures.text) c.text-3.ensures.text) c.number-3.ensures.text) c.text-4.ensures.text) c.state_word.ensures.word c.text-5.ensures.text) c.text-6.ensures.text) (ap number_or_null c.cookie_of.ensures) c.put_number.ensures.text)
     c.in_ok-write_all.ensures.ok
-    (c.as_bytes-2.ensures ∙ put _ _ _ _ (put_told _ _ _ _ _ (put _ _ _ _ (put_told _ _ _ _ _ (put _ _ _ _ (put _ _ _ _ (put _ _ _ _ (c.clear.ensures) c.text-7.ensures.text) c.put_truth.ensures.text) c.text-8.ensures.text) (ap truth_value c.is_forced.ensures) c.put_truth-2.ensures.text) c.text-9.ensures.text) (ap number_or_null c.pid_of.ensures) c.put_number-2.ensures.text) c.text-10.ensures.text)
+    (c.as_bytes-2.ensures ∙ put _ _ _ _ (put_told _ _ _ _ _ (put _ _ _ _ (put_told _ _ _ _ _ (put _ _ _ _ (put_told _ _ _ _ _ (put _ _ _ _ (put _ _ _ _ (put _ _ _ _ (c.clear.ensures) c.text-7.ensures.text) c.put_truth.ensures.text) c.text-8.ensures.text) (ap truth_value c.is_forced.ensures) c.put_truth-2.ensures.text) c.text-9.ensures.text) (ap number_or_null c.pid_of.ensures) c.put_number-2.ensures.text) c.text-10.ensures.text) (ap number_or_null c.group_of.ensures) c.put_number-3.ensures.text) c.text-11.ensures.text)
     sent) c.write_all-2.ensures.ok
 
 pub returns-clause-prefix : goal.returns-clause-prefix
@@ -26,5 +26,5 @@ returns-clause-prefix g c =
     both_prefix c.args.segment.now _ _ _ _ _
     (c.as_bytes.ensures ∙ put_told _ _ _ _ _ (put _ _ _ _ (put_told _ _ _ _ _ (put _ _ _ _ (put _ _ _ _ (put _ _ _ _ (put _ _ _ _ (put _ _ _ _ (put _ _ _ _ (put _ _ _ _ (c.new-line.ensures) c.text.ensures.text) c.number.ensures.text) c.text-2.ensures.text) c.number-2.ensures.text) c.text-3.ensures.text) c.number-3.ensures.text) c.text-4.ensures.text) c.state_word.ensures.word c.text-5.ensures.text) c.text-6.ensures.text) (ap number_or_null c.cookie_of.ensures) c.put_number.ensures.text)
     c.in_ok-write_all.ensures.ok
-    (c.as_bytes-2.ensures ∙ put _ _ _ _ (put_told _ _ _ _ _ (put _ _ _ _ (put_told _ _ _ _ _ (put _ _ _ _ (put _ _ _ _ (put _ _ _ _ (c.clear.ensures) c.text-7.ensures.text) c.put_truth.ensures.text) c.text-8.ensures.text) (ap truth_value c.is_forced.ensures) c.put_truth-2.ensures.text) c.text-9.ensures.text) (ap number_or_null c.pid_of.ensures) c.put_number-2.ensures.text) c.text-10.ensures.text)
+    (c.as_bytes-2.ensures ∙ put _ _ _ _ (put_told _ _ _ _ _ (put _ _ _ _ (put_told _ _ _ _ _ (put _ _ _ _ (put_told _ _ _ _ _ (put _ _ _ _ (put _ _ _ _ (put _ _ _ _ (c.clear.ensures) c.text-7.ensures.text) c.put_truth.ensures.text) c.text-8.ensures.text) (ap truth_value c.is_forced.ensures) c.put_truth-2.ensures.text) c.text-9.ensures.text) (ap number_or_null c.pid_of.ensures) c.put_number-2.ensures.text) c.text-10.ensures.text) (ap number_or_null c.group_of.ensures) c.put_number-3.ensures.text) c.text-11.ensures.text)
     c.write_all-2.ensures.prefix

@@ -11,6 +11,6 @@ invariant-loop-index g l =
     let written = g.K.Sink.written in
     let faults = g.K.Sink.faults in
     record {
-      left : AreLeft line (written l.fn.sink) (flat_map line (pair_lines l.pairs)) (pairs_from l.pairs l.index) (written l.sink);
+      left : AreLeft line (written l.fn.sink) (flat_map line (pair_lines l.by l.pairs)) (pairs_from l.by l.pairs l.index) (written l.sink);
       faultless : faults l.sink ≡ faults l.fn.sink;
     }

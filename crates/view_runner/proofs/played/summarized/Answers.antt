@@ -1,12 +1,10 @@
 use Rattle.std.proofs.Common.{refl}
-use Rattle.run_summary.specs.Summaries.{IsSummaryOf}
-use Rattle.times_report.specs.Summary.{summary_text}
-use Rattle.view_runner.proofs.Endings.{ends_told, ends_refused}
+use Rattle.view_runner.proofs.Endings.{ends_telling, ends_not_telling}
 use Rattle.view_runner.proofs.played.summarized.Goals as goal
 
 pub returns-in-Ok : goal.returns-in-Ok
 returns-in-Ok g c =
-    ends_told IsSummaryOf summary_text _ _ _ c.opened.result (c.in-Ok.scenario, c.in-Ok.room) c.in-Ok.scenario (g.R.Room.opening c.in-Ok.room) c.items.result.now c.write_run.result
+    ends_telling c.args.form _ _ _ c.opened.result (c.in-Ok.scenario, c.in-Ok.room) c.in-Ok.scenario (g.R.Room.opening c.in-Ok.room) c.items.result.now c.write_run.result
     (record {
       faultless = c.opened.ensures.faultless;
       failed = c.opened.ensures.failed;
@@ -22,7 +20,7 @@ returns-in-Ok g c =
 pub returns-in-Err : goal.returns-in-Err
 returns-in-Err g c =
     rw c.from.ensures
-    (ends_refused IsSummaryOf summary_text _ _ _ c.opened.result c.in-Err.stop
+    (ends_not_telling c.args.form _ _ _ c.opened.result c.in-Err.stop
     (record {
       faultless = c.opened.ensures.faultless;
       failed = c.opened.ensures.failed;

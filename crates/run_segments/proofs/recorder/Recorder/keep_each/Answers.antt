@@ -24,7 +24,7 @@ loop-cpu-preserved g c =
     let cpu = c.loop-cpu.cpu in
     let before = c.loop-cpu.self.segments in
     let now_does = c.now_of-now in
-    let next : Segment = record { from = c.args.from; to = c.args.to; cpu = cpu; pid = now_does.result.pid; doing = now_does.result.doing; pending = now_does.result.pending } in
+    let next : Segment = record { from = c.args.from; to = c.args.to; cpu = cpu; pid = now_does.result.pid; group = now_does.result.group; doing = now_does.result.doing; pending = now_does.result.pending } in
     record {
       each = ap (λ (kept : Kept). length kept.places) c.in_ok-keep.ensures ∙ length-kept_with next before ∙ c.loop-cpu.invariant.each;
       marks = now_does.ensures.marks;
@@ -32,7 +32,7 @@ loop-cpu-preserved g c =
           let last = last_span None spans in
           let old = c.args.self.now.segments.segments in
           let below : cpu < siblings = omega (arith, c.loop-cpu-test.true, c.siblings-cpu-end.ensures.siblings) in
-          let is : next ≡ segment_in span cpu = begun_is span room cpu c.args.from c.args.to _ _ _ same now ends now_does.ensures.pid now_does.ensures.doing now_does.ensures.pending in
+          let is : next ≡ segment_in span cpu = begun_is span room cpu c.args.from c.args.to _ _ _ _ same now ends now_does.ensures.pid now_does.ensures.group now_does.ensures.doing now_does.ensures.pending in
           subst (IsAt siblings last span old (cpu + 1)) (sym (c.in_ok-keep.ensures ∙ ap (λ (s : Segment). kept_with s before) is))
           (at_next siblings last span old cpu before below lasts (c.loop-cpu.invariant.kept spans span same now ends lasts total are));
     }

@@ -6,10 +6,15 @@ use Rattle.run_summary.proofs.summary.RunSummary.open.Goals as goal
 
 pub returns-clause-parts : goal.returns-clause-parts
 returns-clause-parts c = λ opening same.
-    let sums = c.in_ok-open-3.ensures opening in
+    let sums = c.in_ok-open-4.ensures opening in
     record {
       times = c.in_ok-open.ensures ∙ ap (λ (n : ℕ). times_in n []) (sym same);
-      pairs = c.in_ok-open-2.ensures.none;
+      pairs = record {
+        by_cookie = c.in_ok-open-2.ensures.by;
+        by_group = c.in_ok-open-3.ensures.by;
+        cookie_pairs = c.in_ok-open-2.ensures.none opening;
+        group_pairs = c.in_ok-open-3.ensures.none opening;
+      };
       tasks = sums ∙ ap (λ (n : ℕ). sums_so_far n opening []) (sym (ap (λ (s : TaskSums). s.entries) sums));
     }
 
@@ -18,4 +23,4 @@ pub returns-clause-entries : goal.returns-clause-entries
 returns-clause-entries c =
     let nothing : Opening =
     record { scenario = record { siblings = 0; task_limit = 0; cookie_limit = 0; user_top = 0; tasks = []; teaches = []; steps = [] }; guards = 0 } in
-    ap (λ (s : TaskSums). s.entries) (c.in_ok-open-3.ensures nothing) ∙ ap (λ (n : ℕ). length c.args.steps.now + n * n) c.from-most.ensures
+    ap (λ (s : TaskSums). s.entries) (c.in_ok-open-4.ensures nothing) ∙ ap (λ (n : ℕ). length c.args.steps.now + n * n) c.from-most.ensures
