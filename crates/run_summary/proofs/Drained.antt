@@ -1,5 +1,5 @@
 -- Drained: that the final drain, which takes no time, leaves the parts as they are, and what the summary keeps then.
-use Rattle.std.proofs.Common.{◌≡◌, ℕ, ◌≤◌, List, length, sym, ap, ◌∙◌, subst, arith}
+use Rattle.std.proofs.Common.{◌≡◌, ℕ, ◌≤◌, List, ap, ◌∙◌, subst, arith}
 use Rattle.std.specs.Prelude.{All}
 use Rattle.cs_types.specs.Room.{Opening}
 use Rattle.cs_types.specs.History.{History}
@@ -13,10 +13,7 @@ use Rattle.run_times.proofs.Laws.{spans_of-drained, times_of-drained}
 use Rattle.pair_times.specs.declared.rows.PairTime.{PairTime}
 use Rattle.pair_times.specs.Pairs.{Pairs, ArePairsIn, ArePairsOf}
 use Rattle.pair_times.proofs.Laws.{rows-le}
-use Rattle.task_times.specs.TaskSums.{TaskSums, sums_of}
 use Rattle.task_times.proofs.Summed.{sums_so_far-drained}
-use Rattle.run_summary.specs.declared.replies.ReplyCounts.{ReplyCounts}
-use Rattle.run_summary.specs.Replies.{replies_of}
 use Rattle.run_summary.specs.Summaries.{Summary, ArePartsOf, IsSummaryOf}
 
 pub parts_of-drained : (opening : Opening) (past now : History) (summary : Summary) → IsDrained opening past now → ArePartsOf opening past summary → ArePartsOf opening now summary
@@ -30,20 +27,6 @@ parts_of-drained opening past now summary drained parts =
         group_pairs = subst (λ (spans : List Span). ArePairsIn summary.group_pairs.by spans summary.group_pairs.rows) (spans_of-drained opening past now drained) parts.pairs.group_pairs;
       };
       tasks = parts.tasks ∙ sums_so_far-drained summary.tasks.entries opening past now drained;
-    }
-
--- with what is noted at the end the parts are the summary
-pub noted : (opening : Opening) (history : History) (summary : Summary) (tasks : TaskSums) (replies : ReplyCounts) → ArePartsOf opening history summary →
-    length history ≤ summary.tasks.entries → tasks ≡ sums_of summary.tasks.entries opening history → replies ≡ replies_of history →
-    IsSummaryOf opening history (record summary { tasks = tasks; replies = replies })
-noted opening history summary tasks replies parts few sums counts =
-    let same : tasks.entries ≡ summary.tasks.entries = ap (λ (s : TaskSums). s.entries) sums in
-    record {
-      times = parts.times;
-      pairs = record { by_cookie = parts.pairs.by_cookie; by_group = parts.pairs.by_group; cookie_pairs = parts.pairs.cookie_pairs; group_pairs = parts.pairs.group_pairs };
-      tasks = sums ∙ ap (λ (n : ℕ). sums_of n opening history) (sym same);
-      rows = omega (arith, few, same);
-      replies = counts;
     }
 
 -- No pair ran side by side for longer than any did.

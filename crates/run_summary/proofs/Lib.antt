@@ -1,3 +1,4 @@
 pub mod Plays
 pub mod Counts
 pub mod Drained
+pub mod Waited

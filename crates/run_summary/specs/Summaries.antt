@@ -6,6 +6,7 @@ use Rattle.run_times.specs.declared.by.By.TheVariants.{Cookie, Group}
 use Rattle.run_times.specs.Sums.{Times, times_of}
 use Rattle.pair_times.specs.Pairs.{Pairs, ArePairsOf}
 use Rattle.task_times.specs.TaskSums.{TaskSums, sums_so_far, sums_of}
+use Rattle.wait_times.specs.Rows.{Waits, waits_of}
 use Rattle.run_summary.specs.declared.replies.ReplyCounts.{ReplyCounts}
 use Rattle.run_summary.specs.Replies.{replies_of}
 
@@ -18,6 +19,8 @@ pub record Summary : Type 0 where
   pub group_pairs : Pairs
   -- for how long each task and the tasks of each cookie did what, and what they were charged
   pub tasks : TaskSums
+  -- how often and for how long each task waited from a wake to its run
+  pub waits : Waits
   -- how many steps were refused, and how
   pub replies : ReplyCounts
 
@@ -32,7 +35,7 @@ pub record ArePairs (opening : Opening) (history : History) (summary : Summary) 
   pub cookie_pairs : ArePairsOf opening history summary.cookie_pairs
   pub group_pairs : ArePairsOf opening history summary.group_pairs
 
--- The parts that grow with a run are those of its history so far.
+-- The parts that are kept before each step are those of the history so far. The waits are kept after it, and stand apart.
 pub record ArePartsOf (opening : Opening) (history : History) (summary : Summary) : Type 0 where
   pub times : summary.times ≡ times_of opening history
   pub pairs : ArePairs opening history summary
@@ -43,5 +46,7 @@ pub record IsSummaryOf (opening : Opening) (history : History) (summary : Summar
   pub times : summary.times ≡ times_of opening history
   pub pairs : ArePairs opening history summary
   pub tasks : summary.tasks ≡ sums_of summary.tasks.entries opening history
+  pub waits : summary.waits ≡ waits_of summary.waits.entries opening history
+  pub each : summary.waits.entries ≡ summary.tasks.entries
   pub rows : length history ≤ summary.tasks.entries
   pub replies : summary.replies ≡ replies_of history

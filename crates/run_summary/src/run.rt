@@ -1,6 +1,6 @@
 //! A run with its summary.
 
-ghost use Rattle.std.specs.Prelude.{◌≡◌, ◌+◌, ◌*◌, ◌^◌, ◌<◌, ◌≤◌, [], true, All, IfOk, OnErr, length, sum_by, slice_index_or};
+ghost use Rattle.std.specs.Prelude.{◌≡◌, ◌+◌, ◌*◌, ◌^◌, ◌<◌, ◌≤◌, ℕ, [], true, All, IfOk, OnErr, length, sum_by, slice_index_or};
 ghost use Rattle.cs_types.specs.Scenario.{IsEvent, IsPlayable};
 ghost use Rattle.cs_types.specs.History.{fold_of, history_of, AreEvents};
 ghost use Rattle.cs_types.specs.Drain.{IsDrained};
@@ -10,11 +10,13 @@ ghost use Rattle.pair_times.specs.Pairs.{most_rows};
 ghost use Rattle.task_times.specs.declared.times.TaskTimes.{TaskTimes};
 ghost use Rattle.task_times.specs.Living.{lives};
 ghost use Rattle.task_times.specs.TaskSums.{all_charged, lived};
+ghost use Rattle.wait_times.specs.declared.rows.TaskWaits.{TaskWaits};
+ghost use Rattle.wait_times.specs.Rows.{AreWaitsSoFar};
 ghost use Rattle.run_summary.specs.Replies.{count_of, all_refused};
 ghost use Rattle.run_summary.specs.Summaries.{spare_rows, ArePartsOf, IsSummaryOf};
 
 use crate::summary::RunSummary;
-use cs_types::{OutOfMemory, Room, Step};
+use cs_types::{Entry, OutOfMemory, Room, Step};
 use std::alloc::Global;
 
 /// Makes the steps, in their order, in a room that has made none, and keeps the parts of the summary.
@@ -28,6 +30,8 @@ fn play<R: Room>(room: &mut R, steps: &[Step], summary: &mut RunSummary)
         ≤ spare_rows summary.old }
     requires few { length steps.now ≤ summary.old.tasks.entries }
     requires fits { summary.old.tasks.entries < 2 ^ 26 }
+    requires waits { AreWaitsSoFar (R.opening room.old) (R.history room.old) summary.old.waits }
+    requires each { summary.old.waits.entries ≡ summary.old.tasks.entries }
 
     ensures history { R.history room.new ≡ history_of (R.opening room.old) steps.now }
     ensures spare { R.spare room.new + length steps.now ≡ R.spare room.old }
@@ -35,14 +39,25 @@ fn play<R: Room>(room: &mut R, steps: &[Step], summary: &mut RunSummary)
     ensures events { AreEvents (R.opening room.new) (R.history room.new) }
     ensures parts { ArePartsOf (R.opening room.new) (R.history room.new) summary.new }
     ensures entries { summary.new.tasks.entries ≡ summary.old.tasks.entries }
+    ensures waits { AreWaitsSoFar (R.opening room.new) (R.history room.new) summary.new.waits }
+    ensures each { summary.new.waits.entries ≡ summary.old.waits.entries }
 {
     for step in steps {
         summary.before(room, step.event);
-        room.apply(step.actor, step.event);
+        let reply = room.apply(step.actor, step.event);
+        let Step { actor, event } = *step;
+        summary.after(
+            room,
+            Entry {
+                actor,
+                event,
+                reply,
+            },
+        );
     }
 }
 
-/// Makes the steps, in their order, in a room that has made none, and then the entries of the end. It answers what is
+/// Makes the steps, in their order, in a room that has made none, and then the final drain. It answers what is
 /// told of that run. All memory is taken before the first step, and at an `Err` none is made. There have to be fewer
 /// than 2^25 steps, so that the counts and the sums fit.
 pub fn summarized_run<R: Room>(
@@ -71,6 +86,10 @@ pub fn summarized_run<R: Room>(
     ensures lived { let state = fold_of (R.opening room.new) (R.history room.new) in
         IfOk result (λ summary. All (λ spec. lives spec.pid state ≡ true → (none : TaskTimes) →
         lived (slice_index_or summary.tasks.tasks spec.pid none) ≡ state.clock) (R.opening room.new).scenario.tasks) }
+
+    // The waits of a task from a wake to its run are part of the time that it waited.
+    ensures waited { IfOk result (λ summary. (pid : ℕ) (waits : TaskWaits) (times : TaskTimes) → pid < length summary.waits.rows →
+        (slice_index_or summary.waits.rows pid waits).sum ≤ (slice_index_or summary.tasks.tasks pid times).by_doing.waited) }
 
     // What all cookies are charged adds up to what all tasks are. So no charge is lost, and none is counted twice.
     ensures charged { IfOk result (λ summary.

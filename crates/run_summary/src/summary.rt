@@ -1,7 +1,7 @@
-//! The parts of the summary, beside one another. One more of them is a field, a line in `open` and in `before`, and a
-//! clause of `ArePartsOf`.
+//! The parts of the summary, beside one another. One more of them is a field, a line in `open`, and in `before` or in `after`,
+//! and a clause of `ArePartsOf` or one of its own.
 
-ghost use Rattle.std.specs.Prelude.{◌≡◌, ◌+◌, ◌*◌, ◌^◌, ◌<◌, ◌≤◌, [], ◌∷◌, ◌++◌, true, length, sum_by, All, IfOk, slice_index_or};
+ghost use Rattle.std.specs.Prelude.{◌≡◌, ◌+◌, ◌*◌, ◌^◌, ◌<◌, ◌≤◌, [], ◌∷◌, ◌++◌, true, ℕ, length, sum_by, All, IfOk, slice_index_or};
 ghost use Rattle.cs_types.specs.declared.reply.Entry.{Entry};
 ghost use Rattle.cs_types.specs.Scenario.{IsEvent, IsPlayable};
 ghost use Rattle.cs_types.specs.Room.{Opening};
@@ -10,15 +10,18 @@ ghost use Rattle.pair_times.specs.Pairs.{most_rows};
 ghost use Rattle.task_times.specs.declared.times.TaskTimes.{TaskTimes};
 ghost use Rattle.task_times.specs.Living.{lives};
 ghost use Rattle.task_times.specs.TaskSums.{all_charged, lived};
+ghost use Rattle.wait_times.specs.declared.rows.TaskWaits.{TaskWaits};
+ghost use Rattle.wait_times.specs.Rows.{AreWaitsSoFar, AreWaitsBefore, AreWaitsBeforeEnd};
 ghost use Rattle.run_summary.specs.Summaries.{spare_rows, ArePartsOf, IsSummaryOf};
 
 use crate::replies::ReplyCounts;
-use cs_types::{Event, OutOfMemory, Room, Step};
-use pair_times::{PairTimes, PairTime};
+use cs_types::{Entry, Event, OutOfMemory, Room, Step};
+use pair_times::{PairTime, PairTimes};
 use run_times::{By, RunTimes};
 use std::alloc::Global;
 use std::marker::Model;
 use task_times::RunTasks;
+use wait_times::RunWaits;
 
 /// What is told of a run. After it is opened it takes no memory.
 #[derive(Drop)]
@@ -28,11 +31,14 @@ pub struct RunSummary {
     group_pairs: PairTimes,
     /// What each was charged is noted at the end.
     tasks: RunTasks,
+    waits: RunWaits,
     /// They are counted at the end.
     replies: ReplyCounts,
 }
 
 impl Model for RunSummary {
+    ghost use Rattle.wait_times.specs.declared.rows.TaskWaits.{TaskWaits};
+    ghost use Rattle.wait_times.specs.Rows.{AreWaitsSoFar, AreWaitsBefore, AreWaitsBeforeEnd};
     ghost use Rattle.run_summary.specs.Summaries.{Summary};
 
     ghost Value = { Summary };
@@ -42,13 +48,14 @@ impl Model for RunSummary {
       cookie_pairs = summary.cookie_pairs;
       group_pairs = summary.group_pairs;
       tasks = summary.tasks;
+      waits = summary.waits;
       replies = summary.replies;
     } };
 }
 
 impl RunSummary {
     /// The parts of a core with this number of siblings, before the first step. They take the memory for what these
-    /// steps, and the entries of the end, can add.
+    /// steps, and the final drain, can add.
     pub(crate) fn open(alloc: Global, siblings: u8, steps: &[Step]) -> Result<Self, OutOfMemory>
         requires few { length steps.now < 2 ^ 25 }
         ensures parts { IfOk result (λ summary. (opening : Opening) → opening.scenario.siblings ≡ siblings →
@@ -56,6 +63,8 @@ impl RunSummary {
         ensures spare { IfOk result (λ summary.
             sum_by (λ step. most_rows siblings step.event) steps.now ≤ spare_rows summary) }
         ensures entries { IfOk result (λ summary. summary.tasks.entries ≡ length steps.now + siblings * siblings) }
+        ensures waits { IfOk result (λ summary. (opening : Opening) → AreWaitsSoFar opening [] summary.waits) }
+        ensures each { IfOk result (λ summary. summary.waits.entries ≡ summary.tasks.entries) }
     {
         let most = usize::from(siblings);
         Ok(RunSummary {
@@ -63,6 +72,7 @@ impl RunSummary {
             cookie_pairs: PairTimes::open(alloc, By::Cookie, siblings, steps)?,
             group_pairs: PairTimes::open(alloc, By::Group, siblings, steps)?,
             tasks: RunTasks::open(alloc, steps.len() + most * most)?,
+            waits: RunWaits::open(alloc, steps.len() + most * most)?,
             replies: ReplyCounts::none(),
         })
     }
@@ -81,6 +91,7 @@ impl RunSummary {
         ensures spare { spare_rows self.old
             ≤ spare_rows self.new + most_rows (R.opening room.now).scenario.siblings event }
         ensures entries { self.new.tasks.entries ≡ self.old.tasks.entries }
+        ensures waits { self.new.waits ≡ self.old.waits }
     {
         self.times.before(room, event);
         self.cookie_pairs.before(room, event);
@@ -88,10 +99,27 @@ impl RunSummary {
         self.tasks.before(room, event);
     }
 
-    /// Notes what each task was charged, and counts the replies, in a room whose run is over.
+    /// Takes in the entry that was just made in the room.
+    pub(crate) fn after<R: Room>(&mut self, room: &R, entry: Entry)
+        requires playable { IsPlayable (R.opening room.now).scenario }
+        requires events { AreEvents (R.opening room.now) (R.history room.now) }
+        requires waits { AreWaitsBefore (R.opening room.now) (R.history room.now) entry self.old.waits }
+        requires few { length (R.history room.now) ≤ self.old.waits.entries }
+        requires fits { self.old.waits.entries < 2 ^ 26 }
+        ensures waits { AreWaitsSoFar (R.opening room.now) (R.history room.now) self.new.waits }
+        ensures entries { self.new.waits.entries ≡ self.old.waits.entries }
+        ensures rest { self.new ≡ record self.old { waits = self.new.waits } }
+    {
+        self.waits.after(room, entry);
+    }
+
+    /// Notes what each task was charged, ends the waits, and counts the replies, in a room whose run is over.
     pub(crate) fn end<R: Room>(&mut self, room: &R)
         requires playable { IsPlayable (R.opening room.now).scenario }
         requires parts { ArePartsOf (R.opening room.now) (R.history room.now) self.old }
+        requires events { AreEvents (R.opening room.now) (R.history room.now) }
+        requires waits { AreWaitsBeforeEnd (R.opening room.now) (R.history room.now) self.old.waits }
+        requires each { self.old.waits.entries ≡ self.old.tasks.entries }
         requires few { length (R.history room.now) ≤ self.old.tasks.entries }
         requires fits { self.old.tasks.entries < 2 ^ 26 }
         ensures summary { IsSummaryOf (R.opening room.now) (R.history room.now) self.new }
@@ -101,10 +129,15 @@ impl RunSummary {
             All (λ spec. lives spec.pid state ≡ true → (none : TaskTimes) →
             lived (slice_index_or self.new.tasks.tasks spec.pid none) ≡ state.clock) (R.opening room.now).scenario.tasks }
 
+        // The waits of a task from a wake to its run are part of the time that it waited.
+        ensures waited { (pid : ℕ) (waits : TaskWaits) (times : TaskTimes) → pid < length self.new.waits.rows →
+            (slice_index_or self.new.waits.rows pid waits).sum ≤ (slice_index_or self.new.tasks.tasks pid times).by_doing.waited }
+
         // What all cookies are charged adds up to what all tasks are.
         ensures charged { sum_by (λ times. times.charged) self.new.tasks.cookies ≡ all_charged self.new.tasks.tasks }
     {
         self.tasks.close(room);
+        self.waits.close(room);
         self.replies = ReplyCounts::of(room);
     }
 
@@ -137,7 +170,14 @@ impl RunSummary {
         &self.tasks
     }
 
-    /// How many steps were refused, and how. The entries of the end are among them.
+    /// How often and for how long each task waited from a wake to its run.
+    pub fn waits(&self) -> &RunWaits
+        ensures { result.now ≡ self.now.waits }
+    {
+        &self.waits
+    }
+
+    /// How many steps were refused, and how. The final drain is among them.
     pub fn replies(&self) -> &ReplyCounts
         ensures { result.now ≡ self.now.replies }
     {

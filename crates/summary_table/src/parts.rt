@@ -9,6 +9,7 @@ use pair_times::PairTime;
 use run_summary::ReplyCounts;
 use run_times::{SiblingTimes, SideBySide};
 use task_times::{CookieTimes, TaskTimes};
+use wait_times::TaskWaits;
 
 /// How wide the columns are: the first, a time, a share, and a count.
 const FIRST: Side = Side::Left(10);
@@ -179,6 +180,48 @@ pub(crate) fn write_cookies<K: Sink>(sink: &mut K, cookies: &[CookieTimes]) -> R
         if times.is_shown() {
             write_cookie(sink, cookie as u64, times)?;
         }
+    }
+    Ok(())
+}
+
+/// Writes the waits of a task.
+fn write_task_waits<K: Sink>(sink: &mut K, pid: u64, waits: TaskWaits) -> Result<(), Failed>
+    ensures faultless { OnOk result (K.faults sink.new ≡ K.faults sink.old) }
+    ensures failed { OnErr result (Rose (K.faults sink.old) (K.faults sink.new)) }
+{
+    let count = u64::from(waits.count);
+    if count == 0 {
+        return Ok(());
+    }
+    write_line(
+        sink,
+        &[
+            (Cell::Number(pid), FIRST),
+            (Cell::Number(count), COUNT),
+            (Cell::Time(waits.sum / count), TIME),
+            (Cell::Time(waits.longest), TIME),
+            (Cell::Time(waits.sum), TIME),
+        ],
+    )
+}
+
+/// Writes how often and for how long each task waited from a wake to its run: of those that did, by rising pid.
+pub(crate) fn write_waits<K: Sink>(sink: &mut K, tasks: &[TaskWaits]) -> Result<(), Failed>
+    ensures faultless { OnOk result (K.faults sink.new ≡ K.faults sink.old) }
+    ensures failed { OnErr result (Rose (K.faults sink.old) (K.faults sink.new)) }
+{
+    write_heading(
+        sink,
+        &[
+            (Cell::Text("WOKEN"), FIRST),
+            (Cell::Text("waits"), COUNT),
+            (Cell::Text("mean ms"), TIME),
+            (Cell::Text("longest ms"), TIME),
+            (Cell::Text("sum ms"), TIME),
+        ],
+    )?;
+    for pid in 0..tasks.len() {
+        write_task_waits(sink, pid as u64, tasks[pid])?;
     }
     Ok(())
 }

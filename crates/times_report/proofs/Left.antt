@@ -13,6 +13,7 @@ use Rattle.scenario_text.specs.Words.{Word}
 use Rattle.scenario_text.specs.Text.{line}
 use Rattle.cs_outside.proofs.Reached.{AreLeft, part_more, part_prefix}
 use Rattle.times_report.specs.TaskLines.{task_lines}
+use Rattle.times_report.specs.WaitLines.{wait_lines}
 use Rattle.times_report.specs.Summary.{cpu_words, forced_words, pair_words, lines_of, sibling_lines, side_lines, end_lines}
 
 -- the lines of the siblings from one on
@@ -86,8 +87,11 @@ after_exposed summary = mixed_part summary ++ after_mixed summary
 abbrev pub after_tasks : Summary → List (List Word)
 after_tasks summary = exposed_part summary ++ after_exposed summary
 
+abbrev pub after_cookies : Summary → List (List Word)
+after_cookies summary = wait_lines summary.waits.rows ++ after_tasks summary
+
 abbrev pub after_siblings : Summary → List (List Word)
-after_siblings summary = task_lines summary.tasks ++ after_tasks summary
+after_siblings summary = task_lines summary.tasks ++ after_cookies summary
 
 -- a part goes out, or a prefix of it
 pub part_out : (before : Option (List ℕ)) (whole : List ℕ) (part told : List (List Word)) (rest : List (List Word)) (mid now : Option (List ℕ)) → told ≡ part →

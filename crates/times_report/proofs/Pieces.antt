@@ -43,6 +43,11 @@ pub groups_text : (low high mixed : Word) →
     ≡ line (codes "groups" ∷ low ∷ high ∷ codes "mixed" ∷ mixed ∷ [])
 groups_text low high mixed = simp append_assoc
 
+pub waits_text : (pid count longest sum : Word) →
+    ((((((((codes "waits " ++ pid) ++ codes " count ") ++ count) ++ codes " longest ") ++ longest) ++ codes " sum ") ++ sum) ++ codes "\n")
+    ≡ line (codes "waits" ∷ pid ∷ codes "count" ∷ count ∷ codes "longest" ∷ longest ∷ codes "sum" ∷ sum ∷ [])
+waits_text pid count longest sum = simp append_assoc
+
 pub replies_text : (no_task awake idle no_caller offline errors : Word) →
     ((((((((((((codes "replies NoTask " ++ no_task) ++ codes " Awake ") ++ awake) ++ codes " Idle ") ++ idle) ++ codes " NoCaller ") ++ no_caller)
     ++ codes " Offline ") ++ offline) ++ codes " errors ") ++ errors) ++ codes "\n")

@@ -1,2 +1,3 @@
 pub mod TaskLines
+pub mod WaitLines
 pub mod Summary

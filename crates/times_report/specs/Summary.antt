@@ -12,6 +12,7 @@ use Rattle.run_summary.specs.Summaries.{Summary}
 use Rattle.scenario_text.specs.Words.{Word}
 use Rattle.scenario_text.specs.Text.{line}
 use Rattle.times_report.specs.TaskLines.{task_lines}
+use Rattle.times_report.specs.WaitLines.{wait_lines}
 
 -- ---- the words of a line
 
@@ -82,9 +83,10 @@ abbrev pub summary_lines : Summary → List (List Word)
 summary_lines summary =
     sibling_lines summary.times.siblings
     ++ (task_lines summary.tasks
+    ++ (wait_lines summary.waits.rows
     ++ (side_lines Cookie summary.times.exposed summary.cookie_pairs.rows
     ++ (side_lines Group summary.times.mixed summary.group_pairs.rows
-    ++ end_lines summary.times summary.replies)))
+    ++ end_lines summary.times summary.replies))))
 
 -- the text, each line with its line feed
 abbrev pub summary_text : Summary → List ℕ

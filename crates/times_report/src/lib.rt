@@ -4,5 +4,6 @@
 mod lines;
 mod task_lines;
 mod texts;
+mod wait_lines;
 
 pub use texts::summary;

@@ -10,6 +10,7 @@ use crate::lines::{
     cpu_line, forced_line, pair_line, pending_line, replies_line, side_line, total_line,
 };
 use crate::task_lines::task_summary;
+use crate::wait_lines::write_waits;
 use cs_outside::{Failed, Sink, write_all};
 use pair_times::PairTime;
 use run_summary::{ReplyCounts, RunSummary};
@@ -69,11 +70,7 @@ fn write_side<K: Sink>(
 }
 
 /// The last three lines. At an `Err` the sink has failed, and a prefix of them is written.
-fn write_end<K: Sink>(
-    times: &RunTimes,
-    replies: &ReplyCounts,
-    sink: &mut K,
-) -> Result<(), Failed>
+fn write_end<K: Sink>(times: &RunTimes, replies: &ReplyCounts, sink: &mut K) -> Result<(), Failed>
     ensures ok { OnOk result (K.written sink.new
         ≡ appended (K.written sink.old) (flat_map line (end_lines times.now replies.now))) }
     ensures prefix { WritesPrefix (K.written sink.old) (flat_map line (end_lines times.now replies.now)) (K.written sink.new) }
@@ -87,7 +84,8 @@ fn write_end<K: Sink>(
     write_all(sink, total_line(times).as_bytes())
 }
 
-/// Writes what is told of a run: what each sibling, each task and the tasks of each cookie did and for how long; for how
+/// Writes what is told of a run: what each sibling, each task and the tasks of each cookie did and for how long; how often
+/// and for how long each task waited from a wake to its run; for how
 /// long tasks with distinct cookies ran side by side, and which; for how long tasks of distinct thread groups did, and which;
 /// for how long a reschedule was pending, how many steps were refused, and all time. Each line goes to the sink in one piece,
 /// and again with the rest if the sink took only a part. At an `Err` the sink has failed, and a prefix of the text is written.
@@ -103,6 +101,7 @@ pub fn summary<K: Sink>(summary: &RunSummary, sink: &mut K) -> Result<(), Failed
     let times = summary.times();
     write_siblings(times.siblings(), sink)?;
     task_summary(summary.tasks(), sink)?;
+    write_waits(summary.waits().rows(), sink)?;
     write_side(By::Cookie, times.exposed(), summary.cookie_pairs(), sink)?;
     write_side(By::Group, times.mixed(), summary.group_pairs(), sink)?;
     write_end(times, summary.replies(), sink)

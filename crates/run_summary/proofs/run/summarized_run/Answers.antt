@@ -3,14 +3,16 @@ use Rattle.std.specs.Prelude.{All}
 use Rattle.std.proofs.lemmas.Nat.{mul-le}
 use Rattle.cs_types.specs.Scenario.{IsPlayable}
 use Rattle.cs_types.specs.Room.{Opening}
-use Rattle.cs_types.specs.History.{History}
+use Rattle.cs_types.specs.History.{History, AreEvents}
 use Rattle.cs_types.specs.Laws.{is_refused}
+use Rattle.cs_laws.proofs.Drains.{AreEvents-drained}
 use Rattle.cs_laws.proofs.Histories.{length-history_of}
 use Rattle.run_times.specs.declared.siblings.SiblingTimes.{SiblingTimes}
 use Rattle.run_times.specs.Times.{spans_of}
 use Rattle.run_times.specs.Sums.{did, Times, times_of}
 use Rattle.run_times.proofs.Clock.{total_time-clock}
 use Rattle.run_times.proofs.Laws.{each_adds_up, times_of-drained, exposed-le}
+use Rattle.wait_times.specs.Rows.{AreWaitsSoFar, AreWaitsBeforeEnd}
 use Rattle.run_summary.specs.declared.replies.ReplyCounts.{ReplyCounts}
 use Rattle.run_summary.specs.Replies.{count_of, all_refused}
 use Rattle.run_summary.specs.Summaries.{ArePartsOf}
@@ -87,3 +89,23 @@ end-requires-clause-fits g c =
     let n = c.siblings.result in
     let few : n ≤ 16 = omega (arith, few_siblings (g.R.Room.opening c.args.room.now) c.siblings.ensures.playable, c.siblings.ensures.siblings) in
     omega (arith, mul-le n n 16 16 few few, c.play.ensures.entries, c.in_ok-summary.ensures.entries, c.requires.few)
+
+pub play-requires-clause-waits : goal.play-requires-clause-waits
+play-requires-clause-waits g c =
+    let opening = g.R.Room.opening c.args.room.now in
+    subst (λ (history : History). AreWaitsSoFar opening history c.in_ok-summary.summary.waits) (sym c.requires.empty) (c.in_ok-summary.ensures.waits opening)
+
+pub end-requires-clause-events : goal.end-requires-clause-events
+end-requires-clause-events g c =
+    let opening = g.R.Room.opening c.play.new.room in
+    let history = g.R.Room.history c.drain.new.self in
+    subst (λ (o : Opening). AreEvents o history) (sym c.drain.ensures.opening)
+    (AreEvents-drained opening (g.R.Room.history c.play.new.room) history c.play.ensures.events c.drain.ensures.entries)
+
+pub end-requires-clause-waits : goal.end-requires-clause-waits
+end-requires-clause-waits g c =
+    let opening = g.R.Room.opening c.play.new.room in
+    let past = g.R.Room.history c.play.new.room in
+    let history = g.R.Room.history c.drain.new.self in
+    subst (λ (o : Opening). AreWaitsBeforeEnd o history c.play.new.summary.waits) (sym c.drain.ensures.opening)
+    (record { past = past; drained = c.drain.ensures.entries; so_far = c.play.ensures.waits })
