@@ -11,7 +11,7 @@ module _ (T : RattleType) (list : MutBor (Bounded T.Denot)) where
   abbrev pub LendsItems : MutBor (List T.Denot) → Fml
   LendsItems items = Lends (the_row T) (Array T 0) list items (with_items list.now)
 
-  -- the same where the items went to an `iter_mut`
+  -- the same if the items went to an `iter_mut`
   abbrev pub LendsEach : IterMut T.Denot → Fml
   LendsEach iter = follows (the_row T) (Array T 0) list.ghost_name (iter_mut_name iter) (with_items list.now)
 
@@ -19,6 +19,6 @@ module _ (T : RattleType) (list : MutBor (Bounded T.Denot)) where
   abbrev pub LendsItem : ℕ → MutBor T.Denot → Fml
   LendsItem index item = Lends (the_row T) T list item (with_item list.now index)
 
-  -- the same where there is an item at the index, and else the list stays
+  -- the same if there is an item at the index; else the list stays
   abbrev pub LendsItemIf : ℕ → Option (MutBor T.Denot) → Fml
   LendsItemIf index item = LendsIf (the_row T) T list item (with_item list.now index) list.now

@@ -1,5 +1,5 @@
-//! A list with room for so many items. A call that makes one takes memory for them all, and no other call takes any:
-//! there is none that could, so what keeps its items in such a list needs no memory once it is made.
+//! A list with room for a fixed number of items. A call that makes one takes memory for them all, and no other call
+//! takes any: there is none that could, so what keeps its items in such a list needs no memory once it is made.
 
 #![tactic(auto)]
 

@@ -10,8 +10,8 @@ ghost use Rattle.std.specs.Borrow.{sem};
 use std::alloc::{AllocError, Global};
 use std::marker::Model;
 
-/// Items in order, and room for so many. `with_room` and `filled` make a list and alone take memory: no other call does,
-/// and none hands out an allocator. The items and the memory go when the list is dropped.
+/// Items in order, and room for a fixed number of them. `with_room` and `filled` make a list and alone take memory: no
+/// other call does, and none hands out an allocator. The items and the memory go when the list is dropped.
 #[derive(Drop)]
 pub struct BoundedList<T> {
     items: Vec<T>,
@@ -97,7 +97,7 @@ impl<T> BoundedList<T> {
         self.items.as_mut_slice()
     }
 
-    /// The item at the index, lent to be changed. `None` exactly where there is none.
+    /// The item at the index, lent to be changed. `None` exactly if there is none.
     #[inline(always)]
     pub fn get_mut(&mut self, index: usize) -> Option<&mut T>
         ensures* writes_back { sem 𝓛 (LendsItemIf T.row self.entry index result) }
@@ -118,7 +118,7 @@ impl<T> BoundedList<T> {
         &mut self.items[index]
     }
 
-    /// Puts the item behind the others. There must be room for it.
+    /// Puts the item after the others. There must be room for it.
     #[inline(always)]
     pub fn push(&mut self, item: T)
         requires room { length self.old.items < self.old.room }
@@ -183,7 +183,7 @@ impl<T: Drop> BoundedList<T> {
 }
 
 impl<T: Copy> BoundedList<T> {
-    /// A list of `room` copies of the item, a count, so with room for no other. It takes memory as `with_room` does.
+    /// A list of `room` copies of the item, a count, so with room for no more. It takes memory as `with_room` does.
     pub fn filled(alloc: Global, item: T, room: usize) -> Result<BoundedList<T>, AllocError>
         ensures items { IfOk result (λ list. list.items ≡ replicate room item) }
         ensures room { IfOk result (λ list. list.room ≡ room) }

@@ -32,7 +32,7 @@ fresh = record { pairs = []; asked = 0 }
 pub record NullGuardState : Type 0 where
   pub asked : ℕ
 
--- `Full` comes only where a guard has as many pairs as its cap, which it names. Of the want of memory nothing is said.
+-- `Full` comes only if a guard has as many pairs as its cap, which it names. Nothing is said of a lack of memory.
 abbrev pub FullOnlyAt : ℕ → ℕ → TeachFault → Type 0
 FullOnlyAt cap count (Full named) = (named ≡ cap) × (count ≡ cap)
 FullOnlyAt cap count OutOfMemory = Unit {0}

@@ -15,10 +15,10 @@ pub record OutputState : Type 0 where
   pub gathered : List ℕ
   pub faults : ℕ
 
--- of these bytes a prefix is gone, and nothing else
+-- a prefix of these bytes is gone, and nothing else
 abbrev pub IsRest : List ℕ → List ℕ → Type 0
 IsRest before now = (n : ℕ) × (now ≡ drop n before)
 
--- of these bytes a prefix is gone, of which this holds, and nothing else
+-- a prefix of these bytes is gone, for which this holds, and nothing else
 abbrev pub LosesPrefix : List ℕ → List ℕ → (List ℕ → Type 0) → Type 0
 LosesPrefix before now P = (n : ℕ) × (now ≡ drop n before) × P (take n before)

@@ -10,7 +10,7 @@ use thiserror::Error;
 #[error("the device failed")]
 pub struct Failed;
 
-/// The answer, once it is counted where it is a fault. The count stays at 2^64 - 1.
+/// The answer, counted if it is a fault. The count stays at 2^64 - 1.
 pub(crate) fn counted<T>(faults: &mut u64, answer: Result<T, Failed>) -> Result<T, Failed>
     ensures same { result ≡ answer }
     ensures ok { OnOk answer (faults.new ≡ faults.old) }

@@ -5,7 +5,7 @@
 pub trait Gate {
     /// Lets the worker of this number pass, before its turn of this number. Workers are counted from 0
     /// over the actors that have a step line: siblings first, then callers, each in rising order. A
-    /// worker's turns are counted from 0, and the last is the one that finds its script made.
+    /// worker's turns are counted from 0, and the last is the one that finds its script done.
     fn pass(&self, actor: u32, turn: u64);
 }
 

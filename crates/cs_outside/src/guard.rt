@@ -33,8 +33,8 @@ pub trait Guard: Drop {
     ghost asked: { Self → ℕ };
 
     /// Teaches it to refuse one more pair of real user ids, a caller's and a target's. A pair that it
-    /// refuses already counts again. `Full` comes only where it has as many pairs as it can be taught,
-    /// and no pair is taught there. Want of memory can come anywhere. An `Err` changes nothing.
+    /// refuses already counts again. `Full` comes only if it has as many pairs as it can be taught,
+    /// and then no pair is taught. Memory can be lacking at any call. An `Err` changes nothing.
     fn teach(&mut self, from: u32, to: u32) -> Result<(), TeachFault>
         ensures taught { OnOk result (pairs self.new ≡ pairs self.old ++ (from, to) ∷ []) }
         ensures below { OnOk result (length (pairs self.old) < cap self.old) }

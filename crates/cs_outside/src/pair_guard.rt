@@ -21,7 +21,8 @@ pub struct PairGuard {
     places: [(u32, u32); MOST_PAIRS],
     /// How many pairs it was taught. They stand in the first places.
     count: usize,
-    /// Of which lots the callers of its pairs are. Most callers are of none of these, and are looked for no further.
+    /// The lots that the callers of its pairs are of. Most callers are of none of these, and no pair is searched for
+    /// them.
     lots: [bool; LOTS],
     asked: u64,
 }
@@ -65,7 +66,7 @@ impl Guard for PairGuard {
 
     ghost asked = { λ guard. guard.asked };
 
-    /// Teaches it one more pair. `Full` comes exactly where it has as many pairs as it can be taught,
+    /// Teaches it one more pair. `Full` comes exactly if it has as many pairs as it can be taught,
     /// and no other `Err` comes.
     fn teach(&mut self, from: u32, to: u32) -> Result<(), TeachFault>
         ensures below { OnOk result (length self.old.pairs < pair_guard_cap) }

@@ -1,4 +1,4 @@
-//! One read and one write of std's, made again where they were interrupted.
+//! One read and one write of std's, made again if they were interrupted.
 
 ghost use Rattle.std.specs.Prelude.{◌≡◌, ◌<◌, ◌≤◌, length, take, IfOk, OnErr};
 ghost use Rattle.std.specs.Io.KnownBytes.{Appends, Consumes, IsAtEnd, Keeps};

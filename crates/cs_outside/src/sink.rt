@@ -7,7 +7,7 @@ use crate::fault::Failed;
 
 /// A sink of bytes.
 pub trait Sink {
-    /// The bytes that were written, where the sink tells them.
+    /// The bytes that were written, if they are known.
     ghost written: { Self → Option (List ℕ) };
 
     /// How often it failed, up to 2^64 - 1, where the count stays.
@@ -28,8 +28,8 @@ pub trait Sink {
         ensures counted { faults self.old ≤ faults self.new };
 }
 
-/// Gives the whole piece to the sink in one piece, and again the rest where it took only a part. At
-/// an `Err` the sink failed, and a prefix of the piece was written. It takes no memory, and always
+/// Gives the whole piece to the sink in one piece, and again the rest if it took only a part. At an
+/// `Err` the sink failed, and a prefix of the piece was written. It takes no memory, and always
 /// returns, since each write takes a byte or fails.
 pub fn write_all<K: Sink>(sink: &mut K, piece: &[u8]) -> Result<(), Failed>
     ensures ok { OnOk result (K.written sink.new ≡ appended (K.written sink.old) piece.now) }

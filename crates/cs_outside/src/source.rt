@@ -7,7 +7,7 @@ use crate::fault::Failed;
 
 /// A source of bytes.
 pub trait Source {
-    /// The bytes still to come, where the source tells them.
+    /// The bytes still to come, if they are known.
     ghost left: { Self → Option (List ℕ) };
 
     /// How often it failed, up to 2^64 - 1, where the count stays.
@@ -20,7 +20,7 @@ pub trait Source {
         ensures within { IfOk result (λ n. n ≤ length buf.old) }
         ensures taken { IfOk result (λ n. left self.old ≡ prepended (take n buf.new) (left self.new)) }
 
-        // Where the bytes are told, nothing comes only at their end.
+        // If the bytes are known, 0 is answered only at their end.
         ensures end { IfOk result (λ n. n ≡ 0 → IfSome (left self.old) (λ bytes. bytes ≡ [])) }
 
         ensures faultless { OnOk result (faults self.new ≡ faults self.old) }

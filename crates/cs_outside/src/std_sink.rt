@@ -11,8 +11,8 @@ use crate::sink::Sink;
 use std::io::Stdout;
 use std::marker::Model;
 
-/// Standard output. It tells no bytes. It gathers them and takes no memory, so `flush` has to be
-/// called after the last write: what is gathered at the end is lost.
+/// Standard output. Clauses do not know its bytes. It gathers them and takes no memory, so `flush`
+/// has to be called after the last write: what is gathered at the end is lost.
 #[derive(Drop)]
 pub struct StdSink {
     output: Stdout,
@@ -63,8 +63,9 @@ impl Sink for StdSink {
 
     ghost faults = { λ sink. sink.faults };
 
-    /// Gathers the whole piece, after what is gathered. Where it does not fit there, that goes to
-    /// the device first. A piece longer than the buffer then goes there too, maybe only a part of it.
+    /// Gathers the whole piece, after what is gathered. If it does not fit there, what is gathered
+    /// goes to the device first. A piece longer than the buffer then goes there too, maybe only a
+    /// part of it.
     fn write(&mut self, piece: &[u8]) -> Result<usize, Failed>
         requires { 0 < length piece.now }
 

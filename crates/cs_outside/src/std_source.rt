@@ -9,7 +9,7 @@ use crate::source::Source;
 use std::io::Stdin;
 use std::marker::Model;
 
-/// Standard input. It tells no bytes.
+/// Standard input. Clauses do not know its bytes.
 #[derive(Drop)]
 pub struct StdSource {
     input: Stdin,

@@ -15,13 +15,13 @@ is_same_user caller target =
 abbrev pub is_undumpable : Creds → Bool
 is_undumpable target = target.mm && not target.dumpable
 
--- a rule of access: where it decides, and what, and the numbers of the guards that are asked for it
+-- a rule of access: whether it decides, whether it then allows, and the numbers of the guards that are asked for it
 pub record Rule : Type 0 where
   pub decides : Bool
   pub allows : Bool
   pub asks : List ℕ
 
--- the decision of the first rule that decides, and yes where none does
+-- the decision of the first rule that decides, and yes if none does
 abbrev pub first_decision : List Rule → Bool
 first_decision [] = true
 first_decision (rule ∷ rules) = if rule.decides then rule.allows else first_decision rules
@@ -33,9 +33,9 @@ kernel_rules caller target =
     record { decides = caller.tgid == target.tgid; allows = true; asks = [] }
     -- another user's task, and the caller has no CAP_SYS_PTRACE
     ∷ record { decides = not (is_same_user caller.creds target.creds) && not caller.creds.cap; allows = false; asks = [] }
-    -- one that may not be dumped, and the caller has none
+    -- a task that may not be dumped, and the caller has no CAP_SYS_PTRACE
     ∷ record { decides = is_undumpable target.creds && not caller.creds.cap; allows = false; asks = [] }
-    -- one that has CAP_SYS_PTRACE, and the caller has none
+    -- a task that has CAP_SYS_PTRACE, and the caller does not
     ∷ record { decides = target.creds.cap && not caller.creds.cap; allows = false; asks = [] }
     ∷ []
 

@@ -9,7 +9,7 @@ use Rattle.cs_types.specs.Room.{RoomState, Interval, task_of, sibling_of, online
 
 -- ---- intervals
 
--- what an interval charges each task that it charges: its time, or where the count or the occupation is above 1 its time
+-- what an interval charges each task that it charges: its time, or, if the count or the occupation is above 1, its time
 -- times the count, shared among the siblings that had a task, rounded down
 abbrev pub share : Interval → ℕ
 share interval =
@@ -41,8 +41,8 @@ abbrev pub pid_with_cookie : Option Task → Option ℕ
 pid_with_cookie None = None
 pid_with_cookie (Some task) = if task.cookie == 0 then None else Some task.spec.pid
 
--- who is charged for a sibling: what it is to run, where that is a task with a cookie (`core_pick`, `rq->curr`; that it needs
--- a cookie is 5.19's rule, and no longer 6.0's)
+-- who is charged for a sibling: what it is to run, if that is a task with a cookie (`core_pick`, `rq->curr`; that it
+-- needs a cookie is 5.19's rule, and no longer 6.0's)
 abbrev pub charged_on : RoomState → ℕ → Option ℕ
 charged_on room cpu = pid_with_cookie (option_and_then (task_of room) (to_run (sibling_of room cpu)))
 
@@ -50,7 +50,7 @@ charged_on room cpu = pid_with_cookie (option_and_then (task_of room) (to_run (s
 unfoldable pub charged : RoomState → List ℕ
 charged room = filter_map (charged_on room) (online room)
 
--- the interval from its start up to now, of a room in which one is open; none where no time has passed
+-- the interval from its start up to now, of a room in which one is open; none if no time has passed
 abbrev pub up_to_now : RoomState → Option ℕ → Option Interval
 up_to_now room None = None
 up_to_now room (Some start) =
@@ -58,7 +58,7 @@ up_to_now room (Some start) =
     then None
     else Some (record { from = start; to = room.clock; count = room.forced; occupation = room.occupation; charged = charged room })
 
--- the open interval up to now; none where none is open or no time has passed
+-- the open interval up to now; none if none is open or no time has passed
 abbrev pub open_interval : RoomState → Option Interval
 open_interval room = up_to_now room room.started
 
@@ -72,7 +72,7 @@ charge room =
       started = option_map (λ start. room.clock) room.started;
     }
 
--- No interval of forced idle is open, and the forced-idle count and the occupation are 0. One that was open is not charged
--- here (the beginning of `pick_next_task`, kernel/sched/core.c).
+-- No interval of forced idle is open, and the forced-idle count and the occupation are 0. One that was open is not
+-- charged here (the beginning of `pick_next_task`, kernel/sched/core.c).
 abbrev pub without_interval : RoomState → RoomState
 without_interval room = record room { forced = 0; occupation = 0; started = None }

@@ -1,4 +1,4 @@
--- Comparisons: how many a search in an ordered tree may take (no rule of the kernel's: the bound is this project's).
+-- Comparisons: how many a search in an ordered tree may make (no rule of the kernel's: the bound is this project's).
 use Rattle.std.specs.Prelude.{ℕ, ◌+◌, ◌*◌, length}
 use Rattle.std.specs.Int.Digits.{digits_of}
 
@@ -6,6 +6,6 @@ use Rattle.std.specs.Int.Digits.{digits_of}
 unfoldable pub digits : ℕ → ℕ
 digits n = length (digits_of 2 n)
 
--- the most comparisons that a call may take where so many keys stand
+-- the most comparisons that a call may make among this number of keys
 abbrev pub most_comparisons : ℕ → ℕ
 most_comparisons n = 2 * digits n + 2

@@ -1,18 +1,20 @@
--- Guards: security modules beside the capability module, which are asked about an access and refuse listed pairs of real
--- users (what a module's `ptrace_access_check` hook does is this project's).
+-- Guards: security modules beside the capability module, which are asked about an access and refuse listed pairs of
+-- real users (what a module's `ptrace_access_check` hook does is this project's).
 use Rattle.std.specs.Prelude.{ℕ, ◌+◌, Bool, true, false, ◌==◌, ◌&&◌, not, if◌then◌else◌, List, [], ◌∷◌, ◌++◌, map, filter, fold, slice_index_or, slice_set}
 use Rattle.std.specs.List.{list_any, range_with_len}
 use Rattle.cs_types.specs.declared.scenario.Teach.{Teach}
 use Rattle.cs_types.specs.declared.view.GuardPlace.{GuardPlace}
 use Rattle.cs_types.specs.declared.view.GuardPlace.TheVariants.{Bench, Active, Dropped}
 
--- a guard: where it is, the pairs of real user ids, a caller's and a target's, that it refuses, and how often it was asked
+-- a guard: where it is, the pairs of real user ids, a caller's and a target's, that it refuses, and how often it was
+-- asked
 pub record GuardState : Type 0 where
   pub place : GuardPlace
   pub pairs : List (ℕ × ℕ)
   pub asked : ℕ
 
--- the guards of a core by their numbers, and the numbers of those that are active, in the order in which they were loaded
+-- the guards of a core by their numbers, and the numbers of those that are active, in the order in which they were
+-- loaded
 pub record GuardList : Type 0 where
   pub all : List GuardState
   pub active : List ℕ
@@ -87,8 +89,8 @@ asked_once guards index =
 abbrev pub asked_each : GuardList → List ℕ → GuardList
 asked_each guards indices = fold asked_once guards indices
 
--- Where conditions are tried in turn, each with the guards that are asked for it: the guards that are asked up to the
--- first condition that holds, and for that.
+-- Conditions are tried in turn, each with the guards that are asked for it. These are the guards that are asked up to
+-- the first condition that holds, and for that one.
 abbrev pub asked_until : List (Bool × List ℕ) → List ℕ
 asked_until [] = []
 asked_until (tried ∷ rest) = tried.1 ++ (if tried.0 then [] else asked_until rest)

@@ -1,5 +1,5 @@
--- Hotplug: how a sibling leaves the core and comes back (after `sched_core_cpu_deactivate` and `sched_core_cpu_starting`,
--- kernel/sched/core.c; the details are this project's rules).
+-- Hotplug: how a sibling leaves the core and comes back (after `sched_core_cpu_deactivate` and
+-- `sched_core_cpu_starting`, kernel/sched/core.c; the details are this project's rules).
 use Rattle.std.specs.Prelude.{ℕ, ◌+◌, true, false, ◌==◌, ◌&&◌, ◌||◌, not, nat_lt, if◌then◌else◌, length, map, find, count_by, None, unwrap_or}
 use Rattle.std.specs.List.{enumerate_from, range_with_len}
 use Rattle.cs_types.specs.declared.task.Task.{Task}
@@ -14,8 +14,8 @@ abbrev pub lowest_other : RoomState → ℕ → ℕ
 lowest_other room cpu =
     unwrap_or (find (λ other. is_online room other && not (other == cpu)) (range_with_len 0 (length room.siblings))) 0
 
--- A task of the sibling that leaves moves to that one. Those that move get the next stamps, in the order of the stamps that
--- they had.
+-- A task of the sibling that leaves moves to the lowest other online one. Those that move get the next stamps, in the
+-- order of the stamps that they had.
 abbrev pub moved_off : RoomState → ℕ → Task → Task
 moved_off room cpu task =
     if task.queued && (task.home == cpu)
@@ -33,7 +33,7 @@ move_off room cpu =
 abbrev pub away : SiblingState → SiblingState
 away sibling = record sibling { online = false; run = None; pending = false; waiting = None; place = 0 }
 
--- A sibling becomes pending where it is online, since another leaves.
+-- A sibling becomes pending if it is online, since another leaves.
 abbrev pub stand_by : SiblingState → SiblingState
 stand_by sibling = record sibling { pending = sibling.pending || sibling.online }
 
@@ -52,7 +52,7 @@ leave room cpu = without_interval (set_one_away (move_off (charge room) cpu) cpu
 
 -- ---- coming back
 
--- It runs idle and is pending, nothing waits for it, and it tries no steal. All else that it has stays.
+-- It runs idle and is pending, nothing waits for it, and it does not try to steal. All else that it has stays.
 abbrev pub back : SiblingState → SiblingState
 back sibling = record sibling { online = true; run = None; pending = true; waiting = None; place = 0 }
 

@@ -22,30 +22,30 @@ use Rattle.cs_types.specs.Accounting.{charge}
 abbrev pub cpu_of : Event → ℕ
 cpu_of event = unwrap_or (scheduler_of event) 0
 
--- the room in which a sibling picks: at a block and at an exit it is the charged one without the task that went
+-- the room in which a sibling picks: at a block and at an exit, the room after the charge, without the task that went
 abbrev pub scheduling_room : RoomState → Event → RoomState
 scheduling_room room (Block cpu) = option_map_or (λ task. run_idle (dequeue (charge room) task) cpu) (running_on room cpu) room
 scheduling_room room (Exit cpu) = option_map_or (λ task. run_idle (without (charge room) task) cpu) (running_on room cpu) room
 scheduling_room room event = room
 
--- what a sibling that made a selection has after it, where this is its choice
+-- what a sibling that made a selection has after it, if this is its choice
 pub record RunsItsChoice (chosen : Option ℕ) (now : SiblingState) : Type 0 where
   -- It runs that. Nothing waits for it, and it has no pending reschedule.
   pub runs : now.run ≡ chosen
   pub nothing_waits : now.waiting ≡ None
   pub not_pending : now.pending ≡ false
 
--- what any other online sibling has after it, where this is its choice
+-- what any other online sibling has after it, if this is its choice
 pub record AwaitsItsChoice (chosen : Option ℕ) (before now : SiblingState) : Type 0 where
   -- It runs what it ran.
   pub runs : now.run ≡ before.run
-  -- Its choice waits exactly where it does not run it yet. Else nothing waits.
+  -- Its choice waits exactly if it does not run it yet. Else nothing waits.
   pub waits : (now.waiting ≡ Some chosen) ↔ (now.run ≢ chosen)
   pub nothing_waits : (now.waiting ≡ None) ↔ (now.run ≡ chosen)
-  -- It is pending exactly where its choice waits or it was pending before.
+  -- It is pending exactly if its choice waits or it was pending before.
   pub pending : IsTrue now.pending ↔ ((now.waiting ≡ Some chosen) ⊎ IsTrue before.pending)
 
--- the first of the tasks that are eligible on a sibling for a core cookie, none where none is
+-- the first of the tasks that are eligible on a sibling for a core cookie, none if none is
 abbrev pub first_eligible : RoomState → ℕ → ℕ → Option Task
 first_eligible room core cpu = first_of (eligible room core cpu)
 
@@ -64,7 +64,7 @@ pub record SelectsCoreWide (before : RoomState) (cpu : ℕ) (pick : Pick) (now :
   -- The core cookie is the lead's.
   pub cookie : now.core_cookie ≡ cookie_of lead
   pub told : pick.core ≡ now.core_cookie
-  -- What each online sibling is to run is the first of the tasks that are eligible there, and idle where none is.
+  -- What each online sibling is to run is the first of the tasks that are eligible there, and idle if none is.
   pub choices : (other : ℕ) → Contains (online before) other →
       to_run (sibling_of now other) ≡ pid_of (first_eligible before now.core_cookie other)
   -- So it is idle, or a task with the core cookie.
@@ -93,7 +93,7 @@ IsSettled room =
     (cpu : ℕ) → Contains (online room) cpu → (sibling_of room cpu).pending ≡ false →
     ((sibling_of room cpu).run ≡ None) ⊎ RunsWithCookie room room.core_cookie cpu
 
--- Any two online siblings that do not run idle run living tasks with one cookie. So it is wherever the rule holds and none
+-- Any two online siblings that do not run idle run living tasks with one cookie. It follows if the rule holds and none
 -- is pending.
 abbrev pub RunOneCookie : RoomState → Type 0
 RunOneCookie room =
@@ -118,7 +118,7 @@ pub record IsConsistent (moment : Moment) (cpu : ℕ) (sibling : SiblingState) :
   -- While the selection is fresh, what waits is idle or a living task with the core cookie.
   pub waiting_has_the_core_cookie : is_fresh moment.ledger ≡ true →
       IfSome sibling.waiting (λ run. IfSome run (λ pid. IsSomeAnd (task_of moment.room pid) (λ task. task.cookie ≡ moment.room.core_cookie)))
-  -- An offline sibling has no queue and runs idle; it is not pending, nothing waits, and it tries no steal.
+  -- An offline sibling has no queue and runs idle; it is not pending, nothing waits, and it does not try to steal.
   pub offline_is_empty : sibling.online ≡ false →
       (queued_on moment.room cpu ≡ []) × (sibling.run ≡ None) × (sibling.pending ≡ false) × (sibling.waiting ≡ None) × (sibling.place ≡ 0)
 
@@ -141,7 +141,7 @@ is_refused Already = true
 is_refused NoGuard = true
 is_refused reply = false
 
--- whether an event uses a serial: a call of `prctl` that makes a cookie, also where it is refused for a member afterwards
+-- whether an event uses a serial: a call of `prctl` that makes a cookie, even if it is refused for a member afterwards
 abbrev pub uses_serial : RoomState → Event → Bool
 uses_serial room (Prctl caller ask) = makes_cookie room caller ask
 uses_serial room event = false
@@ -156,5 +156,5 @@ pub record LeavesTheRoom (before : RoomState) (event : Event) (now : RoomState) 
   pub same : now ≡ record before { next_cookie = now.next_cookie; guards = now.guards }
   -- Each guard that was asked counts that. Nothing else of a guard changes.
   pub asked : now.guards ≡ asked_each before.guards (asked_by before event)
-  -- The next cookie is one further exactly where the event uses a serial.
+  -- The next cookie is one further exactly if the event uses a serial.
   pub serial : now.next_cookie ≡ (if uses_serial before event then before.next_cookie + 1 else before.next_cookie)

@@ -10,12 +10,14 @@ use Rattle.cs_types.specs.History.{History}
 abbrev pub opened : Scenario → GuardList → Opening
 opened scenario guards = record { scenario = scenario; guards = length guards.all }
 
--- a machine may be started on them: the scenario can be played, and the guards stand on the bench, with what its lines teach them
+-- a machine may be started on them: the scenario can be played, and the guards stand on the bench, with what its lines
+-- teach them
 pub record MayStart (scenario : Scenario) (guards : GuardList) : Type 0 where
   pub playable : IsPlayable scenario
   pub on_bench : guards ≡ guards_on_bench scenario.teaches (length guards.all)
 
--- it has started on them: it has their opening and no entry, and can take one for each step and, for the end, the square of the siblings
+-- it has started on them: it has their opening and no entry, and can take one for each step and, for the final drain,
+-- the square of the siblings
 pub record HasStarted (scenario : Scenario) (guards : GuardList) (own : Opening) (history : History) (most : ℕ) : Type 0 where
   pub opening : own ≡ opened scenario guards
   pub empty : history ≡ []

@@ -8,7 +8,7 @@ use Rattle.cs_types.specs.declared.task.Class.TheVariants as class
 use Rattle.cs_types.specs.declared.task.Policy.{Policy}
 use Rattle.cs_types.specs.declared.task.Policy.TheVariants.{Stop, Deadline, Fifo, Rr, Fair}
 
--- the earliest of a list that none of it goes before, none where the list is empty
+-- the earliest item of a list that no other of its items goes before, none if the list is empty
 abbrev pub foremost : {X : Type 0} → (X → X → Bool) → List X → Option X
 foremost before xs = find (λ x. list_all (λ other. not (before other x)) xs) xs
 
@@ -62,9 +62,9 @@ priority_of policy = 0
 
 -- ---- across siblings
 
--- whether a task is higher than another, by the snapshots of their siblings, where every other pair is a tie: its class
--- is higher; or both are deadline and its deadline is earlier; or both are real-time and its priority is greater; or
--- both are fair and its virtual time is smaller, each taken from its own sibling's snapshot (`cfs_prio_less`)
+-- whether a task is higher than another, by the snapshots of their siblings (every other pair is a tie): its class is
+-- higher; or both are deadline and its deadline is earlier; or both are real-time and its priority is greater; or both
+-- are fair and its virtual time is smaller, each taken from its own sibling's snapshot (`cfs_prio_less`)
 abbrev pub is_higher : (ℕ → ℕ) → Task → Task → Bool
 is_higher snapshot a b =
     nat_lt (class_of a.spec.policy) (class_of b.spec.policy)
@@ -80,14 +80,14 @@ outranks snapshot (Some a) (Some b) = is_higher snapshot a b
 
 -- ---- on one sibling
 
--- the same of tasks of one sibling, where the snapshot is the same for both and so makes no difference
+-- the same of tasks of one sibling: the snapshot is the same for both, so it makes no difference
 abbrev pub is_higher_here : Task → Task → Bool
 is_higher_here a b = is_higher (λ cpu. 0) a b
 
--- A task goes before another where it is higher, or where they tie and its stamp is smaller.
+-- A task goes before another if it is higher, or if they tie and its stamp is smaller.
 abbrev pub goes_before : Task → Task → Bool
 goes_before a b = is_higher_here a b || (not (is_higher_here b a) && nat_lt a.stamp b.stamp)
 
--- the task of the list before which no other goes, none where the list is empty
+-- the task of the list before which no other goes, none if the list is empty
 abbrev pub first_of : List Task → Option Task
 first_of tasks = foremost goes_before tasks

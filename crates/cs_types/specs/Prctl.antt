@@ -16,7 +16,7 @@ use Rattle.cs_types.specs.Selection.{cookie_of}
 
 -- ---- live cookies
 
--- a list without those that come again later in it
+-- a list without the items that come again later in it
 abbrev pub distinct : List ℕ → List ℕ
 distinct [] = []
 distinct (x ∷ xs) = if list_any (λ other. other == x) xs then distinct xs else x ∷ distinct xs
@@ -72,7 +72,7 @@ members room scope target = filter (λ task. is_in_scope scope target.spec task.
 
 -- ---- the answer
 
--- whether the one task may access the other, where both are there, and the guards that are asked about it
+-- whether the one task may access the other, if both are there, and the guards that are asked about it
 abbrev pub may_access_each : RoomState → Option Task → Option Task → Bool
 may_access_each room None target = false
 may_access_each room (Some caller) None = false
@@ -95,13 +95,13 @@ asked_about_members room scope caller target =
     (not (may_access_each room caller (Some member)), asked_about_each room caller (Some member))) (members room scope target)))
     target []
 
--- a condition, the answer where it holds, and the numbers of the guards that are asked for it
+-- a condition, the answer if it holds, and the numbers of the guards that are asked for it
 pub record Row : Type 0 where
   pub holds : Bool
   pub answer : Reply
   pub asks : List ℕ
 
--- the answer of the first row that holds, and 0 where none does
+-- the answer of the first row that holds, and 0 if none does
 abbrev pub first_answer : List Row → Reply
 first_answer [] = Zero
 first_answer (row ∷ rows) = if row.holds then row.answer else first_answer rows
@@ -149,7 +149,7 @@ asked_by_call room pid ask =
 
 -- ---- the cookies after it
 
--- whether a call makes a cookie: a command that creates, where no row before the making holds
+-- whether a call makes a cookie: its command creates, and no row before the making holds
 abbrev pub makes_cookie : RoomState → ℕ → Ask → Bool
 makes_cookie room pid ask = is_create ask && not (list_any (λ row. row.holds) (rows_before_making room pid ask))
 
@@ -158,15 +158,15 @@ pub record Setting : Type 0 where
   pub tasks : List Task
   pub cookie : ℕ
 
--- what a call sets where its answer is 0: the caller's cookie to the target's, or that of each member to a new one
--- or to the caller's
+-- what a call sets if its answer is 0: the caller's cookie to the target's, or that of each member to a new one or to
+-- the caller's
 abbrev pub setting_by : RoomState → Task → Task → Ask → Setting
 setting_by room caller target ask =
     if is_share_from ask
     then record { tasks = caller ∷ []; cookie = target.cookie }
     else record { tasks = members room ask.scope target; cookie = if is_create ask then room.next_cookie else caller.cookie }
 
--- the same for a call by the task with the pid; nothing where there is no such task, or no target
+-- the same for a call by the task with the pid; nothing if there is no such task, or no target
 abbrev pub setting_of : RoomState → ℕ → Ask → Setting
 setting_of room pid ask =
     option_map_or (λ caller. option_map_or (λ target. setting_by room caller target ask)
@@ -180,7 +180,7 @@ is_set set pid = list_any (has_pid pid) set.tasks
 abbrev pub runs_one : Setting → SiblingState → Bool
 runs_one set sibling = option_map_or (is_set set) sibling.run false
 
--- The tasks have the cookie. Each sibling that runs one of them becomes pending, also where the cookie is the same
+-- The tasks have the cookie. Each sibling that runs one of them becomes pending, even if the cookie is the same
 -- (`sched_core_update_cookie`).
 abbrev pub set_cookies : RoomState → Setting → RoomState
 set_cookies room set =
@@ -189,7 +189,7 @@ set_cookies room set =
       siblings = map (λ (sibling : SiblingState). record sibling { pending = sibling.pending || runs_one set sibling }) room.siblings;
     }
 
--- What a call has used up, also where it is then refused: a cookie that is made is the next, and is never made again; and
+-- What a call has used up, even if it is then refused: a cookie that is made is the next, and is never made again; and
 -- each guard counts how often it was asked.
 abbrev pub with_used : RoomState → Bool → List ℕ → RoomState
 with_used room makes asked =

@@ -1,5 +1,6 @@
--- Queue: the key of a queued task in its class and its seat on its sibling, and what a class's queue and a sibling's run
--- queue stand for (`struct rq`, and the queues of the classes in it; ties by the queue stamp are this project's rule).
+-- Queue: the key of a queued task in its class and its seat on its sibling, and what a class's queue and a sibling's
+-- run queue stand for (`struct rq`, and the queues of the classes in it; ties by the queue stamp are this project's
+-- rule).
 use Rattle.std.specs.Prelude.{◌≡◌, ℕ, ◌-◌, ◌≤◌, ◌==◌, ◌&&◌, Option, List, map, find, slice_get}
 use Rattle.std.specs.Option.{option_map}
 use Rattle.std.specs.Ordering.{ordering_then, nat_cmp, is_lt}
@@ -11,7 +12,7 @@ use Rattle.cs_types.specs.declared.task.Policy.TheVariants.{Stop, Deadline, Fifo
 use Rattle.cs_types.specs.declared.task.Task.{Task}
 use Rattle.cs_types.specs.Order.{stop_class, fair_class, class_of}
 
--- the value at the least key of a map, none where it is empty. The values stand by rising key
+-- the value at the least key of a map, none if it is empty. The values stand by rising key
 abbrev pub top_of : {K X : Type 0} {R : K → K → Ordering} → FinMap R X → Option X
 top_of members = slice_get (values members) 0
 

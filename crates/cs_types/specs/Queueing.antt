@@ -34,7 +34,7 @@ moved_to room cpu task =
 abbrev pub moved : RoomState → ℕ → Task → RoomState
 moved room cpu task = enqueue room (moved_to room cpu task)
 
--- where a task of this sibling is at home: there, and while that is offline on the lowest online one
+-- where a task of this sibling is at home: there, and, while that is offline, on the lowest online one
 abbrev pub online_home : RoomState → ℕ → ℕ
 online_home room cpu = if is_online room cpu then cpu else lowest_online room
 
@@ -44,13 +44,13 @@ rehomed room task = if is_online room task.home then task else moved_to room (lo
 
 -- ---- at its home
 
--- A task that is queued at its home (a woken one, a child, one whose policy is set) asks that sibling to reschedule where
+-- A task that is queued at its home (a woken one, a child, one whose policy is set) asks that sibling to reschedule if
 -- it runs idle or a lower task (after `check_preempt_curr`; this project's rule).
 abbrev pub preempts : RoomState → Task → Bool
 preempts room task = option_map_or (λ running. is_higher_here task running) (running_on room task.home) true
 
--- A deadline task's absolute deadline is the clock plus its relative deadline (after `update_dl_entity`), and a fair task is
--- pulled up to its queue's least virtual time (after `place_entity`; both are this project's rules).
+-- A deadline task's absolute deadline is the clock plus its relative deadline (after `update_dl_entity`), and a fair
+-- task is pulled up to its queue's least virtual time (after `place_entity`; both are this project's rules).
 abbrev pub refreshed_by : RoomState → Policy → Task → Task
 refreshed_by room (Deadline relative) task = record task { deadline = room.clock + relative }
 refreshed_by room (Fair nice) task = record task { vtime = max task.vtime (sibling_of room task.home).least }
@@ -59,7 +59,8 @@ refreshed_by room policy task = task
 abbrev pub refreshed : RoomState → Task → Task
 refreshed room task = refreshed_by room task.spec.policy task
 
--- The task is refreshed and queued at its home, which may become pending (after `ttwu_do_activate`; this project's rule).
+-- The task is refreshed and queued at its home, which may become pending (after `ttwu_do_activate`; this project's
+-- rule).
 abbrev pub queue_at_home : RoomState → Task → RoomState
 queue_at_home room task =
     let fresh = refreshed room task in flag (enqueue room fresh) task.home (preempts room fresh)

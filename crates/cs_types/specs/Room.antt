@@ -25,7 +25,7 @@ pub record Interval : Type 0 where
 pub record SiblingState : Type 0 where
   -- whether it is online (`cpu_online_mask`)
   pub online : Bool
-  -- the pid of its running task, which stays queued; none where it runs idle (`rq->curr`)
+  -- the pid of its running task, which stays queued; none if it runs idle (`rq->curr`)
   pub run : Option ℕ
   -- whether it has a pending reschedule (`TIF_NEED_RESCHED` of `rq->curr`)
   pub pending : Bool
@@ -39,7 +39,7 @@ pub record SiblingState : Type 0 where
   pub snapshot : ℕ
   -- the time since its last schedule, in ns (of a fair task `se.sum_exec_runtime` less `se.prev_sum_exec_runtime`)
   pub ran : ℕ
-  -- its balance place: how far on the sibling is from which it tries to steal next, 0 where it tries none
+  -- its balance place: how far on the sibling is from which it tries to steal next, 0 if it does not try
   -- (`core_balance_head` of each CPU, and the loop of `steal_cookie_task`)
   pub place : ℕ
 
@@ -55,7 +55,7 @@ pub record RoomState : Type 0 where
   pub tasks : List Task
   -- the pids of the tasks that ended, in the order of their ends (this project's)
   pub ended : List ℕ
-  -- the siblings (the CPUs of one core, also while they are offline), by rising number
+  -- the siblings (the CPUs of one core, even while they are offline), by rising number
   pub siblings : List SiblingState
   -- the next pid, the next stamp and the next cookie (this project's)
   pub next_pid : ℕ
@@ -63,12 +63,13 @@ pub record RoomState : Type 0 where
   pub next_cookie : ℕ
   -- the core cookie (`rq->core->core_cookie`)
   pub core_cookie : ℕ
-  -- the forced-idle count: how many siblings the last core-wide selection forced idle (`rq->core->core_forceidle_count`)
+  -- the forced-idle count: how many siblings the last core-wide selection forced idle
+  -- (`rq->core->core_forceidle_count`)
   pub forced : ℕ
   -- the occupation: for how many siblings a task was chosen (`rq->core->core_forceidle_occupation`)
   pub occupation : ℕ
-  -- since when the open interval of forced idle has not been charged, none where none is open
-  -- (`rq->core->core_forceidle_start`, which is 0 in the kernel where none is open)
+  -- since when the open interval of forced idle has not been charged, none if none is open
+  -- (`rq->core->core_forceidle_start`, which is 0 in the kernel if none is open)
   pub started : Option ℕ
   -- the recorded intervals of forced idle, the oldest first (this project's)
   pub intervals : List Interval
@@ -92,7 +93,8 @@ asleep spec =
       occupation = 0;
     }
 
--- the tasks, by rising pid, with one more in its place: those with a smaller pid, the task, and those with a greater one
+-- the tasks, by rising pid, with one more in its place: those with a smaller pid, the task, and those with a greater
+-- one
 abbrev pub inserted : Task → List Task → List Task
 inserted task tasks =
     filter (λ other. nat_lt other.spec.pid task.spec.pid) tasks ++ task ∷ filter (λ other. nat_lt task.spec.pid other.spec.pid) tasks
@@ -116,7 +118,7 @@ idle =
       place = 0;
     }
 
--- one above the greatest pid of these lines, 1 where there is none
+-- one above the greatest pid of these lines, 1 if there is none
 abbrev pub first_pid : List TaskSpec → ℕ
 first_pid specs = fold (λ pid spec. max pid spec.pid) 0 specs + 1
 
@@ -125,8 +127,8 @@ pub record Opening : Type 0 where
   pub scenario : Scenario
   pub guards : ℕ
 
--- all tasks asleep, all siblings idle, all numbers 0, 1 the first cookie, the first pid above those of the lines, and all
--- guards on the bench
+-- all tasks asleep, all siblings idle, all numbers 0, 1 the first cookie, the first pid above those of the lines, and
+-- all guards on the bench
 abbrev pub start : Opening → RoomState
 start opening =
     let scenario = opening.scenario in
@@ -171,11 +173,11 @@ absent = record idle { online = false }
 abbrev pub sibling_of : RoomState → ℕ → SiblingState
 sibling_of room cpu = slice_index_or room.siblings cpu absent
 
--- the task that a sibling runs, none where it runs idle
+-- the task that a sibling runs, none if it runs idle
 abbrev pub running_on : RoomState → ℕ → Option Task
 running_on room cpu = option_and_then (task_of room) (sibling_of room cpu).run
 
--- what a sibling is to run: what waits for it, and what it runs where nothing waits
+-- what a sibling is to run: what waits for it, and if nothing waits, what it runs
 abbrev pub to_run : SiblingState → Option ℕ
 to_run sibling = unwrap_or sibling.waiting sibling.run
 
@@ -190,8 +192,8 @@ online room = filter (is_online room) (range_with_len 0 (length room.siblings))
 abbrev pub lowest_online : RoomState → ℕ
 lowest_online room = unwrap_or (find (is_online room) (range_with_len 0 (length room.siblings))) 0
 
--- the numbers of the siblings that are online, in the order that begins at one sibling, rises, and then goes from 0 up to
--- it
+-- the numbers of the siblings that are online, in the order that begins at one sibling, rises, and then goes from 0 up
+-- to it
 abbrev pub online_from : RoomState → ℕ → List ℕ
 online_from room cpu =
     filter (is_online room) (range_with_len cpu (length room.siblings - cpu) ++ range_with_len 0 cpu)
@@ -207,7 +209,7 @@ abbrev pub with_task : RoomState → Task → RoomState
 with_task room task =
     record room { tasks = map (λ other. if has_pid task.spec.pid other then task else other) room.tasks }
 
--- the sibling is pending where it was, and where the test says so
+-- the sibling is pending if it was before, or if the test says so
 abbrev pub flag : RoomState → ℕ → Bool → RoomState
 flag room cpu test =
     with_sibling room cpu (record (sibling_of room cpu) { pending = (sibling_of room cpu).pending || test })

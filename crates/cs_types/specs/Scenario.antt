@@ -78,8 +78,8 @@ pub record IsAsk (ask : Ask) : Type 0 where
   pub scope : ask.scope < 2 ^ 32
   pub addr : ask.addr < 2 ^ 64
 
--- the numbers of an event: a sibling of the core, a pid from 1 to 999999, an advance from 1 ns to 1 s, the arguments of a
--- call, what a policy names, a guard from 0 to 15
+-- the numbers of an event: a sibling of the core, a pid from 1 to 999999, an advance from 1 ns to 1 s, the arguments of
+-- a call, what a policy names, a guard from 0 to 15
 abbrev pub IsEvent : ℕ → Event → Type 0
 IsEvent siblings (Turn cpu) = cpu < siblings
 IsEvent siblings (Resched cpu) = cpu < siblings
@@ -96,7 +96,7 @@ IsEvent siblings (Online cpu) = cpu < siblings
 IsEvent siblings (Load index) = index ≤ 15
 IsEvent siblings (Unload index) = index ≤ 15
 
--- A sibling makes its own events, on itself; a caller, 0 to 7, makes the others. No step line is of the end.
+-- A sibling makes its own events, on itself; a caller, 0 to 7, makes the others. No step line has the actor `End`.
 abbrev pub IsMadeBy : Actor → Event → Type 0
 IsMadeBy (Sibling i) (Turn cpu) = cpu ≡ i
 IsMadeBy (Sibling i) (Resched cpu) = cpu ≡ i
@@ -134,8 +134,8 @@ pub record IsTeach (teach : Teach) : Type 0 where
   pub from : teach.from ≤ 65535
   pub to : teach.to ≤ 65535
 
--- Each teach carries the number of its line: three lines stand before the tasks, and a line for each task before the first
--- teach.
+-- Each teach carries the number of its line: three lines stand before the tasks, and a line for each task before the
+-- first teach.
 abbrev pub AreNumbered : ℕ → List Teach → Type 0
 AreNumbered tasks teaches = map (λ teach. teach.line) teaches ≡ range_with_len (tasks + 4) (length teaches)
 

@@ -37,16 +37,16 @@ queued_with room cookie cpu = filter (λ task. task.cookie == cookie) (queued_on
 abbrev pub snapshot_of : RoomState → ℕ → ℕ
 snapshot_of room cpu = (sibling_of room cpu).snapshot
 
--- The lead of a selection that a sibling makes: the earliest first of the online siblings, in the order that begins
--- at it, than which no other first is higher (`max` in `pick_next_task`; that it is the earliest of equal deadlines is this
--- project's rule).
+-- The lead of a selection that a sibling makes: the earliest first of the online siblings, in the order that begins at
+-- it, than which no other first is higher (`max` in `pick_next_task`; that it is the earliest of equal deadlines is
+-- this project's rule).
 unfoldable pub lead_from : RoomState → ℕ → Option Task
 lead_from room cpu =
     option_and_then (λ first. first) (foremost (outranks (snapshot_of room)) (map (first_on room) (online_from room cpu)))
 
--- What a sibling gets for a core cookie: its first, where that is idle or has the cookie; else the first task queued
--- there with the cookie (`sched_core_find`; by the present virtual times, which is this project's rule), which is searched
--- for no cookie 0; else idle.
+-- What a sibling gets for a core cookie: its first, if that is idle or has the cookie; else the first task queued there
+-- with the cookie (`sched_core_find`; by the present virtual times, which is this project's rule), which is not
+-- searched for cookie 0; else idle.
 unfoldable pub choice : RoomState → ℕ → ℕ → Option Task
 choice room core cpu =
     if is_none (first_on room cpu) || (cookie_of (first_on room cpu) == core)
@@ -54,19 +54,19 @@ choice room core cpu =
     else (if core == 0 then None else first_of (queued_with room core cpu))
 
 -- The tasks of a sibling that may run for a core cookie: those queued there that have it. For cookie 0 the kernel
--- searches nothing, so only the first may, where its cookie is 0.
+-- searches nothing, so only the first may, if its cookie is 0.
 abbrev pub eligible : RoomState → ℕ → ℕ → List Task
 eligible room core cpu =
     if core == 0
     then filter (λ task. task.cookie == 0) (option_to_list (first_on room cpu))
     else queued_with room core cpu
 
--- A sibling is forced idle where it gets idle and has a queued task.
+-- A sibling is forced idle if it gets idle and has a queued task.
 abbrev pub is_forced : RoomState → ℕ → ℕ → Bool
 is_forced room core cpu = is_none (choice room core cpu) && is_some (first_on room cpu)
 
 -- how many online siblings are forced idle, and how many get a task (`core_forceidle_count` and
--- `core_forceidle_occupation`; that the latter is kept also where none is forced idle is this project's rule)
+-- `core_forceidle_occupation`; that the latter is kept even if none is forced idle is this project's rule)
 abbrev pub forced_count : RoomState → ℕ → ℕ
 forced_count room core = count_by (is_forced room core) (online room)
 
@@ -108,7 +108,7 @@ adopt room cpu run =
 abbrev pub is_plain : RoomState → ℕ → Bool
 is_plain room cpu = (room.core_cookie == 0) && (room.forced == 0) && (cookie_of (first_on room cpu) == 0)
 
--- The sibling runs its first, and its snapshot becomes its least where that is fair (`se_fi_update`,
+-- The sibling runs its first, and its snapshot becomes its least if that is a fair task (`se_fi_update`,
 -- kernel/sched/fair.c).
 abbrev pub pick_plain : RoomState → ℕ → Scheduled
 pick_plain room cpu =
@@ -124,12 +124,12 @@ pick_plain room cpu =
 
 -- ---- selected
 
--- A selection renews no snapshot where some sibling was forced idle before it and some is after it (`fi_before` in
+-- A selection renews no snapshot if some sibling was forced idle before it and some is after it (`fi_before` in
 -- `pick_next_task`).
 abbrev pub renews_snapshots : RoomState → ℕ → Bool
 renews_snapshots room core = (room.forced == 0) || (forced_count room core == 0)
 
--- An online sibling once it or another, the selector, has selected for a core cookie.
+-- An online sibling after the selector, which is this sibling or another, has selected for a core cookie.
 abbrev pub sibling_after_selection : RoomState → ℕ → ℕ → ℕ → SiblingState → SiblingState
 sibling_after_selection room core selector cpu sibling =
     let chosen = choice room core cpu in
@@ -140,14 +140,14 @@ sibling_after_selection room core selector cpu sibling =
       run = if selects then pid_of chosen else sibling.run;
       -- For any other its choice waits, unless it runs that already (`rq->core_pick`).
       waiting = if selects || runs_it then None else Some (pid_of chosen);
-      -- The selector is not pending. One that runs its choice already stays pending where it was, and every other
-      -- becomes pending (`resched_curr`).
+      -- The selector is not pending. One that runs its choice already stays pending if it was, and every other becomes
+      -- pending (`resched_curr`).
       pending = not selects && (not runs_it || sibling.pending);
       -- The time since its schedule begins anew for the selector alone.
       ran = if selects then 0 else sibling.ran;
-      -- Where idle is the choice, it remembers the occupation (`core_occupation` of `rq->idle`).
+      -- If idle is the choice, it remembers the occupation (`core_occupation` of `rq->idle`).
       occupation = if is_none chosen then occupation_of room core else sibling.occupation;
-      -- Where a fair task is the choice, the snapshot becomes the least (`task_vruntime_update` and `se_fi_update`,
+      -- If a fair task is the choice, the snapshot becomes the least (`task_vruntime_update` and `se_fi_update`,
       -- kernel/sched/fair.c).
       snapshot = if is_fair_task chosen && renews_snapshots room core then sibling.least else sibling.snapshot;
     }
@@ -161,7 +161,7 @@ abbrev pub task_after_selection : RoomState → ℕ → Task → Task
 task_after_selection room core task =
     record task { occupation = if is_chosen room core task.spec.pid then occupation_of room core else task.occupation }
 
--- the room once the online siblings have their choices for this core cookie. An interval of forced idle opens where some
+-- the room once the online siblings have their choices for this core cookie. An interval of forced idle opens if some
 -- sibling is forced idle and the core has a cookie (that it needs one is 5.19's rule, and no longer 6.0's).
 unfoldable pub select_for : RoomState → ℕ → ℕ → RoomState
 select_for room cpu core =
@@ -197,7 +197,7 @@ select room cpu =
 abbrev pub pick_anew : RoomState → ℕ → Scheduled
 pick_anew room cpu = if is_plain room cpu then pick_plain room cpu else select room cpu
 
--- A waiting pick is adopted where it may be: nothing was touched since the last core-wide selection, and this event has
+-- A waiting pick is adopted if it may be: nothing was touched since the last core-wide selection, and this event has
 -- dequeued no task. Else the open interval is charged, and the sibling picks anew (`sched_core_account_forceidle` in
 -- `pick_next_task`).
 abbrev pub adopt_or_pick_anew : RoomState → Bool → ℕ → Waiting → Scheduled
@@ -205,7 +205,7 @@ adopt_or_pick_anew room may_adopt cpu None = pick_anew (charge room) cpu
 adopt_or_pick_anew room may_adopt cpu (Some run) =
     if may_adopt then adopt room cpu run else pick_anew (charge room) cpu
 
--- A sibling is to try to steal where some sibling is forced idle, it runs idle itself, the core has a cookie, and a task
+-- A sibling is to try to steal if some sibling is forced idle, it runs idle itself, the core has a cookie, and a task
 -- is queued on it (the end of `pick_next_task`, and `queue_core_balance`).
 abbrev pub is_to_steal : RoomState → ℕ → Bool
 is_to_steal room cpu =

@@ -1,5 +1,5 @@
 -- Shuffles: histories in which each actor's steps keep the order of its script. An actor with no step line has an empty
--- script, so these histories have no entry of it, nor of the end.
+-- script, so these histories have no entry of it, nor of the final drain.
 use Rattle.std.specs.Prelude.{◌≡◌}
 use mathlib.Core.List.{IsPrefix}
 use Rattle.cs_types.specs.declared.event.Actor.{Actor}

@@ -7,19 +7,20 @@ use Rattle.cs_types.specs.Order.{first_of}
 use Rattle.cs_types.specs.Selection.{first_on, queued_with, is_run}
 use Rattle.cs_types.specs.Queueing.{moved}
 
--- the sibling from which a sibling tries to steal next: as far on from it as its balance place says, and from 0 after the last
+-- the sibling from which a sibling tries to steal next: as far on from it as its balance place says, and from 0 after
+-- the last
 abbrev pub source_of : RoomState → ℕ → ℕ
 source_of room cpu = (cpu + (sibling_of room cpu).place) % length room.siblings
 
--- whether a thief may take a task from a source: the source neither runs it nor has it waiting, and it was chosen beside
--- no more tasks than the thief's idle was (`try_steal_cookie`, `core_occupation`)
+-- whether a thief may take a task from a source: the source neither runs it nor has it waiting, and it was chosen
+-- beside no more tasks than the thief's idle was (`try_steal_cookie`, `core_occupation`)
 abbrev pub may_steal : SiblingState → SiblingState → Task → Bool
 may_steal thief source task =
     not (is_run (unwrap_or source.waiting None) (Some task.spec.pid))
     && not (is_run source.run (Some task.spec.pid))
     && not (nat_lt thief.occupation task.occupation)
 
--- What is stolen: the first of the source's tasks with the core's cookie that is not passed over, where the core has a
+-- What is stolen: the first of the source's tasks with the core's cookie that is not passed over, if the core has a
 -- cookie and the thief runs idle (the first by the present virtual times, which is this project's rule).
 unfoldable pub stolen : RoomState → ℕ → Option Task
 stolen room thief =
@@ -32,7 +33,7 @@ stolen room thief =
 abbrev pub set_place : RoomState → ℕ → ℕ → RoomState
 set_place room cpu place = with_sibling room cpu (record (sibling_of room cpu) { place = place })
 
--- The thief is pending, and makes no more tries. The source is pending too where this was its last task, it runs idle, and
+-- The thief is pending, and makes no more tries. The source is pending too if this was its last task, it runs idle, and
 -- some sibling is forced idle (`resched_curr` in `sched_core_dequeue`).
 abbrev pub steal : RoomState → ℕ → Task → RoomState
 steal room thief task =
@@ -40,7 +41,7 @@ steal room thief task =
     let after = flag (set_place (moved room thief task) thief 0) thief true in
     flag after source (is_none (first_on after source) && is_none (sibling_of after source).run && not (after.forced == 0))
 
--- Where nothing was found, the next try goes one sibling on, and after the last there is none.
+-- If nothing was found, the next try goes one sibling on, and after the last there is none.
 abbrev pub next_place : RoomState → ℕ → ℕ
 next_place room thief =
     if (sibling_of room thief).place + 1 == length room.siblings then 0 else (sibling_of room thief).place + 1

@@ -29,7 +29,7 @@ pub record Stepped : Type 0 where
 
 -- ---- wake (`try_to_wake_up`, kernel/sched/core.c)
 
--- There is no such task, or it is awake already, or it is queued at its home, or at another where that is offline
+-- There is no such task, or it is awake already, or it is queued at its home, or, if that is offline, at another
 -- (`try_to_wake_up`, `select_fallback_rq`).
 abbrev pub wake : RoomState → Option Task → Stepped
 wake room None = record { reply = NoTask; room = room }
@@ -44,7 +44,7 @@ wake room (Some task) =
 abbrev pub picked : (Pick → Reply) → Scheduled → Stepped
 picked answer scheduled = record { reply = answer scheduled.pick; room = scheduled.room }
 
--- A steal try: a task is stolen, or none is found (`try_steal_cookie`).
+-- A try to steal: a task is stolen, or none is found (`try_steal_cookie`).
 abbrev pub try_steal : RoomState → ℕ → Option Task → Stepped
 try_steal room cpu None = record { reply = Missed (source_of room cpu); room = set_place room cpu (next_place room cpu) }
 try_steal room cpu (Some task) =
@@ -54,7 +54,7 @@ try_steal room cpu (Some task) =
 abbrev pub unless_offline : RoomState → ℕ → Stepped → Stepped
 unless_offline room cpu stepped = if is_online room cpu then stepped else record { reply = answer.Offline; room = room }
 
--- A pending reschedule is taken (`TIF_NEED_RESCHED` is set). Else the sibling tries to steal where it is to, and else
+-- A pending reschedule is taken (`TIF_NEED_RESCHED` is set). Else the sibling tries to steal if it is to, and else
 -- there is nothing to do.
 abbrev pub turn : RoomState → Bool → ℕ → Stepped
 turn room may_adopt cpu =
@@ -72,9 +72,9 @@ turn room may_adopt cpu =
 abbrev pub run_idle : RoomState → ℕ → RoomState
 run_idle room cpu = with_sibling room cpu (record (sibling_of room cpu) { run = None })
 
--- The sibling runs idle already. Or the open interval is charged, its running task is dequeued, and then it schedules (the
--- charge before the dequeue is this project's rule). The dequeue touched, so that schedule adopts nothing. It charges at
--- the same moment again, which records nothing.
+-- The sibling runs idle already. Or the open interval is charged, its running task is dequeued, and then it schedules
+-- (the charge before the dequeue is this project's rule). The dequeue touched, so that schedule adopts nothing. It
+-- charges at the same moment again, which records nothing.
 abbrev pub block : RoomState → ℕ → Option Task → Stepped
 block room cpu None = record { reply = Idle; room = room }
 block room cpu (Some task) = picked (Slept task.spec.pid) (schedule (run_idle (dequeue (charge room) task) cpu) false cpu)
@@ -96,8 +96,8 @@ without room task =
     }
 
 -- The sibling runs idle, or its running task leads others. Or the open interval is charged, the task ends, and then the
--- sibling schedules (the charge before the dequeue is this project's rule). The dequeue touched, so that schedule adopts
--- nothing. It charges at the same moment again, which records nothing.
+-- sibling schedules (the charge before the dequeue is this project's rule). The dequeue touched, so that schedule
+-- adopts nothing. It charges at the same moment again, which records nothing.
 abbrev pub exit : RoomState → ℕ → Option Task → Stepped
 exit room cpu None = record { reply = Idle; room = room }
 exit room cpu (Some task) =
@@ -107,7 +107,7 @@ exit room cpu (Some task) =
 
 -- ---- fork (`copy_process`, kernel/fork.c, and `sched_core_fork`, kernel/sched/core_sched.c)
 
--- A child has its caller's home, policy, credentials and process group (where that home is offline, `child_at_home` gives
+-- A child has its caller's home, policy, credentials and process group (if that home is offline, `child_at_home` gives
 -- it another). A thread is in its caller's thread group, and a process leads its own.
 abbrev pub child_spec : Task → Bool → ℕ → TaskSpec
 child_spec caller thread pid =
@@ -129,14 +129,14 @@ child_of caller thread pid = record (asleep (child_spec caller thread pid)) { co
 abbrev pub with_child : RoomState → Task → RoomState
 with_child room child = record room { tasks = inserted child room.tasks; next_pid = room.next_pid + 1 }
 
--- It is at home where its caller is, or on the lowest online sibling where that is offline, and its virtual time is the
+-- It is at home where its caller is, or on the lowest online sibling if that is offline, and its virtual time is the
 -- least of its queue, whatever its class (after `task_fork_fair`; this project's rule).
 abbrev pub child_at_home : RoomState → Task → Task
 child_at_home room child =
     let home = online_home room child.home in record child { home = home; vtime = (sibling_of room home).least }
 
--- whether a fork is refused: as many of these tasks live as may (this project's limit), or the caller is a deadline task
--- (`sched_fork`, kernel/sched/core.c)
+-- whether a fork is refused: as many of these tasks live as may (this project's limit), or the caller is a deadline
+-- task (`sched_fork`, kernel/sched/core.c)
 abbrev pub may_not_fork : ℕ → List Task → Task → Bool
 may_not_fork limit tasks caller = (length tasks == limit) || (class_of caller.spec.policy == deadline_class)
 
@@ -158,8 +158,8 @@ fork room thread (Some caller) =
 abbrev pub advance : RoomState → ℕ → Stepped
 advance room delta = record { reply = Now (room.clock + delta); room = advanced room delta }
 
--- The open interval is charged (`sched_core_tick`; that it comes first is this project's rule). Where the sibling runs idle,
--- that is all. Else its running task is asked to leave or not.
+-- The open interval is charged (`sched_core_tick`; that it comes first is this project's rule). If the sibling runs
+-- idle, that is all. Else its running task is asked to leave or not.
 abbrev pub tick : RoomState → ℕ → Option Task → Stepped
 tick room cpu None = record { reply = Ticked false; room = charge room }
 tick room cpu (Some task) =
@@ -171,7 +171,7 @@ tick room cpu (Some task) =
 abbrev pub with_policy : Policy → Task → Task
 with_policy policy task = record task { spec = record task.spec { policy = policy }; used = 0 }
 
--- A queued task leaves its queue and enters it again, and its sibling becomes pending where it runs.
+-- A queued task leaves its queue and enters it again, and its sibling becomes pending if it runs.
 abbrev pub requeue : RoomState → Task → RoomState
 requeue room task =
     flag (queue_at_home (dequeue room task) task) task.home (is_run (sibling_of room task.home).run (Some task.spec.pid))
@@ -188,8 +188,8 @@ set_policy room policy (Some task) = record { reply = Set; room = with_policy_se
 
 -- ---- leaving and coming back
 
--- It is offline already, or it is the last that is online, or it leaves (`_cpu_down`, kernel/cpu.c, which answers EBUSY for
--- the last; that an offline sibling is answered so is this project's rule).
+-- It is offline already, or it is the last that is online, or it leaves (`_cpu_down`, kernel/cpu.c, which answers EBUSY
+-- for the last; that an offline sibling is answered so is this project's rule).
 abbrev pub take_offline : RoomState → ℕ → Stepped
 take_offline room cpu =
     if not (is_online room cpu)
@@ -209,7 +209,7 @@ bring_online room cpu =
 
 -- ---- load and unload (this project's rules)
 
--- A guard can be loaded that stands on the bench, and unloaded where it is active.
+-- A guard can be loaded if it stands on the bench, and unloaded if it is active.
 abbrev pub load_answer : GuardList → ℕ → Reply
 load_answer guards index = if is_bench (guard_of guards index).place then Loaded else NoGuard
 
@@ -218,7 +218,7 @@ unload_answer guards index = if is_active (guard_of guards index).place then ans
 
 -- ---- every event
 
--- what each event does, where the test says whether a waiting pick may be adopted
+-- what each event does; the test says whether a waiting pick may be adopted
 abbrev pub step : RoomState → Bool → Event → Stepped
 step room may_adopt (Turn cpu) = unless_offline room cpu (turn room may_adopt cpu)
 step room may_adopt (Resched cpu) = unless_offline room cpu (picked Picked (schedule room may_adopt cpu))

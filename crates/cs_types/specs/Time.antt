@@ -1,5 +1,6 @@
--- Time: what an advance of the clock and a tick of a sibling's timer do (`update_curr`, `task_tick_rt`, `task_tick_core`
--- and `sched_prio_to_weight` of kernel/sched; the moments and the exact numbers are this project's rules).
+-- Time: what an advance of the clock and a tick of a sibling's timer do (`update_curr`, `task_tick_rt`,
+-- `task_tick_core` and `sched_prio_to_weight` of kernel/sched; the moments and the exact numbers are this project's
+-- rules).
 use Rattle.std.specs.Prelude.{ℕ, ◌+◌, ◌-◌, ◌*◌, ◌/◌, max, ℤ, pos, negsuc, Bool, true, false, ◌==◌, ◌&&◌, ◌||◌, not, nat_lt, if◌then◌else◌, List, [], ◌∷◌, map, filter, Some, slice_index_or}
 use Rattle.std.specs.List.{list_any, enumerate_from}
 use Rattle.std.specs.Option.{option_map_or}
@@ -62,7 +63,7 @@ with_growth room delta =
 abbrev pub fair_times : RoomState → ℕ → List ℕ
 fair_times room cpu = map (λ task. task.vtime) (filter is_fair (queued_on room cpu))
 
--- a sibling's least virtual time is the greater of itself and the smallest of its queued fair tasks, where it has one
+-- a sibling's least virtual time is the greater of itself and the smallest of its queued fair tasks, if it has one
 -- (`update_min_vruntime`), so it never falls
 abbrev pub least_of : RoomState → ℕ → ℕ
 least_of room cpu =
@@ -80,8 +81,8 @@ advanced room delta = with_leasts (with_growth room delta)
 
 -- ---- a tick
 
--- the slice of an RR task, in ns (`RR_TIMESLICE`, which the kernel counts in ticks), and how long forced idle may wait for a
--- fair task (6 ms, this project's rule)
+-- the slice of an RR task, in ns (`RR_TIMESLICE`, which the kernel counts in ticks), and how long forced idle may wait
+-- for a fair task (6 ms, this project's rule)
 abbrev pub slice : ℕ
 slice = 100000000
 
@@ -106,18 +107,18 @@ abbrev pub is_peer : Task → Task → Bool
 is_peer task other =
     (class_of other.spec.policy == real_time_class) && (priority_of other.spec.policy == priority_of task.spec.policy)
 
--- A running RR task that has used its slice goes behind the others of its priority, where there is one
--- (`requeue_task_rt` in `task_tick_rt`).
+-- A running RR task that has used its slice goes after the others of its priority, if there is one (`requeue_task_rt`
+-- in `task_tick_rt`).
 abbrev pub rotates : RoomState → ℕ → Task → Bool
 rotates room cpu task = has_used_slice task && list_any (is_peer task) (others_on room cpu task)
 
--- A running fair task has been overtaken where another fair one has a smaller virtual time (after `check_preempt_tick`; that
--- any difference is enough is this project's rule).
+-- A running fair task has been overtaken if another fair one has a smaller virtual time (after `check_preempt_tick`;
+-- that any difference is enough is this project's rule).
 abbrev pub is_overtaken : RoomState → ℕ → Task → Bool
 is_overtaken room cpu task =
     is_fair task && list_any (λ other. is_fair other && nat_lt other.vtime task.vtime) (others_on room cpu task)
 
--- A running fair task with no other fair one beside it is to yield where it has run so long and a sibling is forced idle
+-- A running fair task with no other fair one beside it is to yield if it has run so long and a sibling is forced idle
 -- (`task_tick_core`, `__entity_slice_used`).
 abbrev pub is_to_yield : RoomState → ℕ → Task → Bool
 is_to_yield room cpu task =
@@ -128,7 +129,7 @@ is_to_yield room cpu task =
 abbrev pub asks_at_tick : RoomState → ℕ → Task → Bool
 asks_at_tick room cpu task = rotates room cpu task || is_overtaken room cpu task || is_to_yield room cpu task
 
--- An RR task that has used its slice begins a new one, and with it has the next stamp where it rotates.
+-- An RR task that has used its slice begins a new one, and gets the next stamp with it if it rotates.
 abbrev pub begin_slice : RoomState → ℕ → Task → RoomState
 begin_slice room cpu task =
     record (with_task room (record task {

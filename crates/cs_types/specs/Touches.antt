@@ -30,7 +30,7 @@ is_adopted Selected = false
 is_adopted Adopted = true
 is_adopted Plain = false
 
--- the pick that a reply tells, if it tells one
+-- the pick in a reply, if it has one
 abbrev pub pick_of : Reply → Option Pick
 pick_of (Picked pick) = Some pick
 pick_of (Slept pid pick) = Some pick
@@ -54,15 +54,15 @@ scheduler_of (Online cpu) = None
 scheduler_of (Load index) = None
 scheduler_of (Unload index) = None
 
--- the pick of a core-wide selection, if a reply tells one
+-- the pick of a core-wide selection, if a reply has one
 abbrev pub selection_of : Reply → Option Pick
 selection_of reply = option_and_then (λ (pick : Pick). if is_selected pick.kind then Some pick else None) (pick_of reply)
 
--- whether an entry tells a core-wide selection
+-- whether an entry is of a core-wide selection
 abbrev pub is_selection : Entry → Bool
 is_selection entry = is_some (selection_of entry.reply)
 
--- whether an entry tells that the sibling took a pick of a core-wide selection, its own or another's
+-- whether an entry says that the sibling took a pick of a core-wide selection, its own or another's
 abbrev pub is_taken_by : ℕ → Entry → Bool
 is_taken_by cpu entry =
     option_map_or (λ other. other == cpu) (scheduler_of entry.event) false
@@ -74,7 +74,7 @@ is_taken_by cpu entry =
 abbrev pub pick_touches : Pick → ℕ
 pick_touches pick = if is_adopted pick.kind then 0 else 1
 
--- a queued task leaves the cookie order where its old cookie is not 0, and enters it where its new one is not 0
+-- a queued task leaves the cookie order if its old cookie is not 0, and enters it if its new one is not 0
 -- (`sched_core_dequeue` and `sched_core_enqueue` in `sched_core_update_cookie`, as of 6.1, which is this project's
 -- choice)
 abbrev pub cookie_touches : ℕ → Task → ℕ
@@ -92,7 +92,7 @@ abbrev pub set_touches : RoomState → Event → ℕ
 set_touches room (Prctl caller ask) = setting_touches (setting_of room caller ask)
 set_touches room event = 0
 
--- a task that leaves a queue and enters one touches twice (this project's rule): one whose policy is set, where it is
+-- a task that leaves a queue and enters one touches twice (this project's rule): one whose policy is set, if it is
 -- queued
 abbrev pub policy_touches : Option Task → ℕ
 policy_touches task = option_map_or (λ (task : Task). if task.queued then 2 else 0) task 0

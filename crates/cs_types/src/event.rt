@@ -9,7 +9,7 @@ pub enum Actor {
     Sibling(u8),
     /// A caller from outside the core, 0 to 7.
     Caller(u8),
-    /// The end of a run, which makes pending siblings schedule.
+    /// The final drain of a run, which makes pending siblings schedule.
     End,
 }
 
@@ -42,8 +42,8 @@ impl Ask {
 /// One event of the core: what one step does, in one piece, under the core's lock.
 #[derive(Clone, Copy)]
 pub enum Event {
-    /// The sibling takes its pending reschedule, if it has one. Else it tries to steal a task, where
-    /// its last schedule left it so.
+    /// The sibling takes its pending reschedule, if it has one. Else it tries to steal a task, if
+    /// its last schedule left it a try.
     Turn(Cpu),
     /// The sibling schedules.
     Resched(Cpu),

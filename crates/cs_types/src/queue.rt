@@ -49,8 +49,8 @@ pub trait ClassQueue: Drop {
     /// How many more tasks it can take.
     ghost spare: { Self → ℕ };
 
-    /// Raises `spare` to `n` where it is below. This call alone takes memory. An `Err`, for want of it
-    /// or where there would be more than 4294967295 tasks, changes nothing.
+    /// Raises `spare` to `n` if it is below. This call alone takes memory. An `Err`, for want of it or
+    /// if there would be more than 4294967295 tasks, changes nothing.
     fn reserve(&mut self, n: u32) -> Result<(), OutOfMemory>
         ensures members { members self.new ≡ members self.old }
         ensures spare { OnOk result (spare self.new ≡ max n (spare self.old)) }
@@ -64,7 +64,7 @@ pub trait ClassQueue: Drop {
         ensures spare { spare self.new + 1 ≡ spare self.old }
         ensures counted { steps.new ≤ steps.old + most_comparisons (map.len (members self.old)) };
 
-    /// Takes the task at a key out. `false` comes exactly where none is there, and then nothing
+    /// Takes the task at a key out. `false` comes exactly if none is there, and then nothing
     /// changes.
     fn take<L: Ledger>(&mut self, rank: u128, stamp: u64, steps: &mut Steps<L>) -> bool
         ensures found { result ≡ map.contains_key (members self.old) (rank, stamp) }
@@ -72,8 +72,8 @@ pub trait ClassQueue: Drop {
         ensures spare { spare self.new ≡ spare self.old + (if result then 1 else 0) }
         ensures counted { steps.new ≤ steps.old + most_comparisons (map.len (members self.old)) };
 
-    /// The task with the least rank, and among those with the least stamp. `None` exactly where there
-    /// is no task.
+    /// The task with the least rank, and among those with the least stamp. `None` exactly if there is
+    /// no task.
     fn top<L: Ledger>(&self, steps: &mut Steps<L>) -> Option<Pid>
         ensures top { result ≡ top_of (members self.now) }
         ensures counted { steps.new ≤ steps.old + most_comparisons (map.len (members self.now)) };

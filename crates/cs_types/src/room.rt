@@ -56,9 +56,9 @@ pub trait Room: Drop {
             (fold_of (opening self.old) (history self.old)) event
             (fold_of (opening self.new) (history self.new)) };
 
-    /// Makes the entries of the end of a run, and answers how many: while an online sibling is pending,
+    /// Makes the entries of the final drain, and answers how many: while an online sibling is pending,
     /// one schedules. At most as many are made as the square of the siblings, and `spare` has to be at
-    /// least that. It takes no memory, and makes no steal try.
+    /// least that. It takes no memory, and never tries to steal.
     fn drain(&mut self) -> u64
         requires spare { (opening self.old).scenario.siblings * (opening self.old).scenario.siblings ≤ spare self.old }
 
@@ -68,7 +68,7 @@ pub trait Room: Drop {
         ensures spare { spare self.new + result ≡ spare self.old }
         ensures opening { opening self.new ≡ opening self.old }
 
-        // Nobody is pending after it. So no two running tasks differ in cookie.
+        // No sibling is pending after it. So no two running tasks differ in cookie.
         ensures nobody_pending { pending (fold_of (opening self.new) (history self.new)) ≡ [] }
         ensures one_cookie { RunOneCookie (fold_of (opening self.new) (history self.new)) };
 
@@ -81,7 +81,7 @@ pub trait Room: Drop {
         ensures length { result ≡ length (history self.now) }
         ensures events { AreEvents (opening self.now) (history self.now) };
 
-    /// The entry at a place of the history, from 0 for the oldest. `None` exactly where the place is
+    /// The entry at a place of the history, from 0 for the oldest. `None` exactly if the place is
     /// not below the length.
     fn entry(&self, place: u64) -> Option<Entry>
         ensures { result ≡ slice_get (history self.now) place };
@@ -110,7 +110,7 @@ pub trait Room: Drop {
         ensures divisors { All (λ interval. 0 < interval.occupation)
             (fold_of (opening self.now) (history self.now)).intervals };
 
-    /// A sibling. `None` exactly where the core has no such sibling.
+    /// A sibling. `None` exactly if the core has no such sibling.
     fn cpu(&self, cpu: Cpu) -> Option<CpuView>
         ensures view { result ≡ cpu_view (moment_of (opening self.now) (history self.now)) cpu }
 
@@ -120,26 +120,26 @@ pub trait Room: Drop {
         ensures trust { let moment = moment_of (opening self.now) (history self.now) in
             IfSome result (IsTrusted (core_view moment) (task_view_after moment)) }
 
-        // Of what `numbers` and this call show of one room: a turn and a reschedule of the sibling adopt exactly
-        // where the pick number is the task number, the sibling's own number is another, and a pick waits for it.
+        // Of what `numbers` and this call show of one room: a turn and a reschedule of the sibling adopt exactly if the
+        // pick number is the task number, the sibling's own number is another, and a pick waits for it.
         ensures adoption { let moment = moment_of (opening self.now) (history self.now) in
             IfSome result (AdoptsByNumbers moment cpu (task_number moment.ledger, pick_number moment.ledger)) };
 
-    /// The living task with the least pid above this one. `None` exactly where there is none.
+    /// The living task with the least pid above this one. `None` exactly if there is none.
     fn task_after(&self, pid: Pid) -> Option<TaskView>
         ensures view { result ≡ task_view_after (moment_of (opening self.now) (history self.now)) pid }
 
         // A virtual time is far below what its type holds.
         ensures bounded { IfSome result (λ task. task.vtime < 2 ^ 80) };
 
-    /// A task that ended, by the place of its end, from 0 for the first. `None` exactly where no more
+    /// A task that ended, by the place of its end, from 0 for the first. `None` exactly if no more
     /// ended.
     fn ended(&self, place: u64) -> Option<EndView>
         ensures { result ≡ option_map (end_view (fold_of (opening self.now) (history self.now)))
             (slice_get (fold_of (opening self.now) (history self.now)).ended place) };
 
-    /// The guard of this number, from 0 in the order in which they were handed in. `None` exactly where the
-    /// number is not below that of the guards handed in.
+    /// The guard of this number, from 0 in the order in which they were handed in. `None` exactly if the number is not
+    /// below that of the guards handed in.
     fn guard(&self, index: u8) -> Option<GuardView>
         ensures view { result ≡ guard_view (fold_of (opening self.now) (history self.now)).guards index }
 

@@ -1,11 +1,11 @@
-//! A count of steps that no code holds, so that a bound on comparisons costs nothing when it runs.
+//! A count of comparisons that no code holds, so that a bound on them costs nothing when it runs.
 
 ghost use Rattle.std.specs.Prelude.{◌≡◌, ◌+◌, ◌<◌};
 
 use std::marker::Model;
 use std::sync::ledger::{Blank, Book, Ledger, Share};
 
-/// How many steps were taken. It takes no bytes, and only `tick` changes it.
+/// How many comparisons were made. It takes no bytes, and only `tick` changes it.
 #[derive(Drop)]
 pub struct Steps<L: Ledger> {
     book: Book<L>,
@@ -23,7 +23,7 @@ impl<L: Ledger> Model for Steps<L> {
 }
 
 impl<L: Ledger> Steps<L> {
-    /// No step yet, in a ledger that nothing else counts in.
+    /// No comparison yet, in a ledger that nothing else counts in.
     pub fn start(blank: Blank) -> Self
         requires name { blank.name ≡ L.name }
         requires parts { blank.parts ≡ L.parts }
@@ -34,7 +34,7 @@ impl<L: Ledger> Steps<L> {
         Steps { book, share }
     }
 
-    /// One step more. It has no code.
+    /// One comparison more. It has no code.
     pub fn tick(&mut self)
         ensures { self.new ≡ self.old + 1 }
     {

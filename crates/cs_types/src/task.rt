@@ -4,7 +4,7 @@ ghost use Rattle.std.specs.Prelude.{◌≡◌};
 
 use crate::queue::Queued;
 
-/// The number of a task. 0 is no task's: where a reply names what a sibling runs, it is idle.
+/// The number of a task. 0 is no task's: in a reply that names what a sibling runs, it is idle.
 pub type Pid = u32;
 
 /// A core-scheduling cookie, by its serial number. 0 is no cookie.
@@ -16,8 +16,8 @@ pub type Cpu = u8;
 /// A task's scheduling policy.
 #[derive(Clone, Copy)]
 pub enum Policy {
-    /// The class of the stop task (`stop_sched_class`), above every other. The kernel has one such task for each CPU; here
-    /// any task can be one.
+    /// The class of the stop task (`stop_sched_class`), above every other. The kernel has one such task for each CPU;
+    /// here any task can be one.
     Stop,
     /// `SCHED_DEADLINE` with a relative deadline, 1 to 1000000000 ns.
     Deadline(u64),
@@ -106,7 +106,7 @@ pub struct TaskSpec {
     pub tgid: Pid,
     /// Its process group, 1 to 9999 in a scenario.
     pub pgid: u32,
-    /// The sibling on which it begins, its first home. Of a child it is its caller's home at the fork; where that was
+    /// The sibling on which it begins, its first home. Of a child it is its caller's home at the fork; if that was
     /// offline, the child's first home is the lowest online sibling.
     pub cpu: Cpu,
     /// Its scheduling policy, of a living task the one that was set last.
