@@ -17,7 +17,7 @@ key_at spot = record { group = spot.0; class = spot.1.0; rank = spot.1.1.0; stam
 abbrev pub spotted_of : Ordered → Spotted
 spotted_of tree = record { tasks = map_renamed spot_cmp spot_at tree.members; spare = tree.spare }
 
--- the task of an entry, where that has the cookie
+-- the task of an entry, if that has the cookie
 abbrev pub with_cookie : ℕ → Option Entry → Option Queued
 with_cookie cookie None = None
 with_cookie cookie (Some entry) = cond (entry.0.group == cookie) (Some (queued_in (spot_at entry.0) entry.1)) None

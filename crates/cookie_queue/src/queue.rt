@@ -51,8 +51,8 @@ impl CookieQueue {
         }
     }
 
-    /// Raises `spare` to `n` tasks where it is below. This call alone takes memory. An `Err`, for want of
-    /// it or where there would be more than 4294967295 tasks, changes nothing.
+    /// Raises `spare` to `n` tasks if it is below. This call alone takes memory. An `Err`, for want of it or if there
+    /// would be more than 4294967295 tasks, changes nothing.
     pub fn reserve(&mut self, n: u32) -> Result<(), OutOfMemory>
         ensures tasks { self.new.tasks ≡ self.old.tasks }
         ensures spare { OnOk result (self.new.spare ≡ max n self.old.spare) }
@@ -72,8 +72,8 @@ impl CookieQueue {
 }
 
 impl<A> CookieQueue<A> {
-    /// Puts a task, which has a cookie, where none has its cookie, class, rank and stamp
-    /// (`sched_core_enqueue`).
+    /// Puts a task in, which must have a cookie (`sched_core_enqueue`). None may have its cookie,
+    /// class, rank and stamp.
     #[inline(always)]
     pub fn put<L: Ledger>(&mut self, task: Queued, steps: &mut Steps<L>)
         requires spare { 0 < self.old.spare }
@@ -87,7 +87,7 @@ impl<A> CookieQueue<A> {
         self.tree.insert(key_of(&task), task.pid, steps);
     }
 
-    /// Takes a task out (`sched_core_dequeue`). `false` comes exactly where it is not there, and then
+    /// Takes a task out (`sched_core_dequeue`). `false` comes exactly if it is not there, and then
     /// nothing changes.
     #[inline(always)]
     pub fn take<L: Ledger>(&mut self, task: &Queued, steps: &mut Steps<L>) -> bool
@@ -101,7 +101,7 @@ impl<A> CookieQueue<A> {
         self.tree.remove(&key_of(task), steps)
     }
 
-    /// The task, which is there, has another rank, at which none has its cookie, class and stamp.
+    /// The task, which must be there, gets another rank, at which none may have its cookie, class and stamp.
     #[inline(always)]
     pub fn set_rank<L: Ledger>(&mut self, task: &Queued, rank: u128, steps: &mut Steps<L>)
         requires there { IsTrue (map.contains_key self.old.tasks (spot_of task.now)) }
@@ -133,8 +133,7 @@ impl<A> CookieQueue<A> {
         self.tree.renew(renewal, steps);
     }
 
-    /// The highest task with the cookie (`sched_core_find`, kernel/sched/core.c). `None` exactly where no
-    /// task has it.
+    /// The highest task with the cookie (`sched_core_find`, kernel/sched/core.c). `None` exactly if no task has it.
     pub fn first_of<L: Ledger>(&self, cookie: Cookie, steps: &mut Steps<L>) -> Option<Queued>
         ensures first { result ≡ first_with self.now.tasks cookie }
 
@@ -149,12 +148,13 @@ impl<A> CookieQueue<A> {
     }
 
     /// The highest task with the cookie of this one that is lower than it (`sched_core_next`,
-    /// kernel/sched/core.c). `None` exactly where no task with the cookie is lower.
+    /// kernel/sched/core.c). `None` exactly if no task with the cookie is lower.
     pub fn next_of<L: Ledger>(&self, task: &Queued, steps: &mut Steps<L>) -> Option<Queued>
         requires { IsRanked task.now }
         ensures next { result ≡ next_with self.now.tasks task.now }
 
-        // If these are the tasks with cookies of some of a room, it is the first of those with the cookie behind the task.
+        // If these are the tasks with cookies of some of a room, it is the first of those with the cookie after the
+        // task.
         ensures model { (tasks : List Task) (above : Task) → self.now.tasks ≡ spotted (list.map queued_of tasks) →
             All (λ task. priority_of task.spec.policy ≤ 99) tasks → task.now ≡ queued_of above →
             priority_of above.spec.policy ≤ 99 → above.cookie ≢ 0 →
@@ -185,7 +185,7 @@ fn key_of(task: &Queued) -> Key
     }
 }
 
-/// The task of an entry, where that has the cookie.
+/// The task of an entry, if that has the cookie.
 fn queued_with(cookie: Cookie, entry: Option<(Key, Pid)>) -> Option<Queued>
     ensures { result ≡ with_cookie cookie entry }
 {

@@ -18,7 +18,7 @@ refs_code =
     code_by (FinMap nat_cmp ℕ × (ℕ × ℕ)) (coded× (code coded_ℕ coded_ℕ) (coded× coded_ℕ coded_ℕ)) (λ refs. (refs.counts, (refs.next, refs.limit)))
     (λ parts. record { counts = parts.0; next = parts.1.0; limit = parts.1.1 }) (λ _. refl)
 
--- how many references a cookie has, 0 where it is not live
+-- how many references a cookie has, 0 if it is not live
 abbrev pub count_of : Refs → ℕ → ℕ
 count_of refs cookie = unwrap_or (get refs.counts cookie) 0
 
@@ -30,7 +30,8 @@ live_count refs = len refs.counts
 abbrev pub references : ℕ → ℕ → ℕ
 references own cookie = if cookie == own && not (cookie == 0) then 1 else 0
 
--- Each cookie's count is the number of the tasks that have it, and one more where it is held beside them. Held 0 is none.
+-- Each cookie's count is the number of the tasks that have it, and one more if it is held beside them. If 0 is held,
+-- none is.
 abbrev pub AgreeBut : Refs → List Task → ℕ → Type 0
 AgreeBut refs tasks held =
     (cookie : ℕ) → count_of refs cookie ≡ sum_by (λ task. references task.cookie cookie) tasks + references held cookie

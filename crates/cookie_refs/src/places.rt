@@ -6,7 +6,7 @@ use cs_types::Cookie;
 /// How many indices are noted, a count. Cookies that differ by a multiple of it share one.
 const PLACES: usize = 1024;
 
-/// The indices of cookies, as they were made or found last. They are noted anew where those that ended are taken out.
+/// The indices of cookies, as they were made or found last. They are noted anew when those that ended are taken out.
 #[derive(Drop)]
 pub(crate) struct Places {
     noted: [u32; PLACES],

@@ -74,7 +74,7 @@ impl CookieRefs {
 
     /// A new cookie with one reference, the caller's, under the next serial
     /// (`sched_core_alloc_cookie`; the serial and the limit are this project's). It is refused exactly
-    /// where as many are live as may be.
+    /// if as many are live as may be.
     pub fn make(&mut self) -> Result<Cookie, CookieFull>
         requires { self.old.next < 2 ^ 63 }
         ensures full { IsErr result ↔ (live_count self.old ≡ self.old.limit) }
@@ -88,7 +88,7 @@ impl CookieRefs {
         ensures next { OnOk result (self.new.next ≡ self.old.next + 1) }
         ensures limit { self.new.limit ≡ self.old.limit }
 
-        // The next serial is a cookie, and of none before. Where the counts are those of a list of
+        // The next serial is a cookie, and was none before. If the counts are those of a list of
         // tasks, the live cookies are those that its tasks have.
         ensures above_0 { 0 < self.old.next }
         ensures unused { count_of self.old self.old.next ≡ 0 }
@@ -143,7 +143,7 @@ impl CookieRefs {
         }
     }
 
-    /// One reference to the one cookie less, and one more to the other (`sched_core_update_cookie`). Nothing changes where
+    /// One reference to the one cookie less, and one more to the other (`sched_core_update_cookie`). Nothing changes if
     /// they are the same.
     #[inline(always)]
     pub fn exchange(&mut self, from: Cookie, to: Cookie)
@@ -162,7 +162,7 @@ impl CookieRefs {
         self.put(from);
     }
 
-    /// How many references a cookie has: 0 where it is not live, and for 0.
+    /// How many references a cookie has: 0 if it is not live, and for 0.
     pub fn count(&self, cookie: Cookie) -> u32
         ensures count { result ≡ count_of self.now cookie }
         ensures none { cookie ≡ 0 → result ≡ 0 }
@@ -178,14 +178,14 @@ impl CookieRefs {
         ensures count { result ≡ live_count self.now }
         ensures limit { result ≤ self.now.limit }
 
-        // Where the counts are those of a list of tasks, these are the cookies that its tasks have.
+        // If the counts are those of a list of tasks, these are the cookies that its tasks have.
         ensures tasks { (tasks : _) → Agree self.now tasks → result ≡ length (live_cookies tasks) }
     {
         self.live
     }
 }
 
-/// Takes out the cookies that ended, where there is no place for one more. The indices of the others are noted anew then.
+/// Takes out the cookies that ended, if there is no place for one more. The indices of the others are noted anew then.
 fn take_out_ended(cookies: &mut BoundedList<CookieCount>, places: &mut Places)
     ensures items { cookies.new.items ≡
         (if length cookies.old.items == cookies.old.room then live_of cookies.old.items else cookies.old.items) }

@@ -34,15 +34,15 @@ pub fn weight(nice: i8) -> u32
     WEIGHTS[weight_index(nice)]
 }
 
-/// How far the virtual time of a running fair task of this nice value, from -20 to 19, grows in so
-/// many ns of the clock, rounded down, in ns (`calc_delta_fair`, kernel/sched/fair.c; that it is
+/// How far the virtual time of a running fair task of this nice value, from -20 to 19, grows in
+/// `delta` ns of the clock, rounded down, in ns (`calc_delta_fair`, kernel/sched/fair.c; that it is
 /// exact is this project's rule).
 #[tactic(auto, unfolding(cs_types::specs::Time::growth))]
 pub fn grow(delta: u64, nice: i8) -> u128
     requires { IsNice nice }
     ensures { result ≡ growth delta nice }
 {
-    // Where the product fits 64 bits, as it does for each advance of a scenario, so does its division.
+    // If the product fits 64 bits, as it does for each advance of a scenario, so does its division.
     match delta.checked_mul(1024) {
         Some(scaled) => u128::from(scaled / u64::from(weight(nice))),
         None => u128::from(delta) * 1024 / u128::from(weight(nice)),

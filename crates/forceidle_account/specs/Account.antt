@@ -3,7 +3,7 @@ use Rattle.std.specs.Prelude.{◌≡◌, ℕ, Option}
 use Rattle.cs_types.specs.Room.{RoomState}
 
 -- how many siblings are forced idle (`core_forceidle_count`), for how many a task was chosen
--- (`core_forceidle_occupation`), since when the open interval has not been charged, none where none is open
+-- (`core_forceidle_occupation`), since when the open interval has not been charged, none if none is open
 -- (`core_forceidle_start`), and how many intervals were recorded
 pub record Account : Type 0 where
   pub count : ℕ

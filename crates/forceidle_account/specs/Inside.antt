@@ -7,6 +7,6 @@ use Rattle.forceidle_account.specs.Account.{Account}
 abbrev pub account_of : Inside → Account
 account_of idle = record { count = idle.count; occupation = idle.occupation; started = idle.started; intervals = idle.intervals }
 
--- where a sibling is forced idle, a task was chosen for another
+-- if a sibling is forced idle, a task was chosen for another
 pub record IsSound (idle : Inside) : Type 0 where
   pub occupied : 0 < idle.count → 0 < idle.occupation

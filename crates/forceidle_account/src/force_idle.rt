@@ -48,7 +48,7 @@ impl ForceIdle {
     }
 
     /// A core-wide selection at `now`, in ns from the start and below 2^56, has forced `count`
-    /// siblings idle, and chosen a task for `occupation`, 0 to 255 each. The interval begins where a
+    /// siblings idle, and chosen a task for `occupation`, 0 to 255 each. The interval begins if a
     /// sibling is forced idle under a core cookie, 0 for none, and else none is open
     /// (`pick_next_task`, kernel/sched/core.c; that it asks for a cookie is 5.19's rule, and no longer
     /// 6.0's). One that was open before is not charged here.
@@ -72,9 +72,9 @@ impl ForceIdle {
 
     /// Records the interval that is open up to `now`, in ns from the start and below 2^56, and goes
     /// on with one from now (`__sched_core_account_forceidle`, kernel/sched/core_sched.c). It gives
-    /// the share, in ns and below 2^64, of each task that is charged for the interval: its time, or
-    /// where the count or the occupation is above 1 its time times the count, divided by the
-    /// occupation and rounded down. `None` comes exactly where no interval is open or no time has
+    /// the share, in ns and below 2^64, of each task that is charged for the interval: its time,
+    /// or, if the count or the occupation is above 1, its time times the count, divided by the
+    /// occupation and rounded down. `None` comes exactly if no interval is open or no time has
     /// passed, and then nothing changes.
     ///
     /// An interval that is open may not begin after `now`.

@@ -52,7 +52,7 @@ Leans Less left right = left + 1 ≡ right
 Leans Equal left right = left ≡ right
 Leans Greater left right = left ≡ right + 1
 
--- how two nodes lean that take over the sides of one that leans so
+-- how the two nodes lean that take over the sides of one that leans so
 abbrev pub split : Ordering → Ordering × Ordering
 split Less = (Greater, Equal)
 split Equal = (Equal, Equal)
@@ -99,7 +99,7 @@ pub record IsFirst (whole : Branch) (entry : Entry) (others : Branch) (lower : B
   pub entries : whole.entries ≡ entry ∷ others.entries
   pub height : whole.height ≡ others.height + (if lower then 1 else 0)
 
--- the same where a place holds the node of the first entry
+-- the same if a place holds the node of the first entry
 abbrev pub HasFirst : Branch → Option (Box Node Global) → Branch → Bool → Type 0
 HasFirst whole None others lower = ⊥
 HasFirst whole (Some node) others lower = IsFirst whole (entry_in node.value) others lower
@@ -136,7 +136,8 @@ pub record IsLeaning (left : Branch) (entry : Entry) (right : Branch) (lean : Or
   pub sides : HoldsSides left entry right
   pub leans : Leans lean left.height right.height
 
--- Two entries can take the sides of a node between them for what they lack: the keys rise then, and their other sides are as high as the higher of these.
+-- Two entries can take the sides of a node between them for what they lack: the keys rise then, and their other sides
+-- are as high as the higher of these.
 pub record CanSpread (left : Branch) (low : Entry) (middle : Node) (high : Entry) (right : Branch) : Type 0 where
   pub rising : IsTrue (is_sorted key_cmp (joined (over left low middle.left) (entry_in middle) (over middle.right high right)))
   pub below : HoldsSides left low middle.left
@@ -145,7 +146,7 @@ pub record CanSpread (left : Branch) (low : Entry) (middle : Node) (high : Entry
   pub left_levels : left.height ≡ max middle.left.height middle.right.height
   pub right_levels : right.height ≡ max middle.left.height middle.right.height
 
--- the height that a root comes to where its sides are then as high as each other
+-- the height that a root comes to if its sides are then as high as each other
 abbrev pub left_levels : Node → ℕ
 left_levels node = max node.left.height (node.right.height + 1)
 

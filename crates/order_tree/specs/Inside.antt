@@ -8,7 +8,8 @@ use Rattle.order_tree.specs.declared.order.OrderTree.TheInside.{Inside}
 abbrev pub ordered_of : {A : Type 0} → Inside A → Ordered
 ordered_of order = record { members = from_sorted order.tree.entries; spare = order.spare }
 
--- The keys rise, and are as many as were counted. The first entry is at hand. There are the spare nodes at least, and places for them and for those in the tree.
+-- The keys rise, and are as many as were counted. The first entry is at hand. There are at least the spare nodes, and
+-- places for them and for those in the tree.
 pub record IsSound {A : Type 0} (order : Inside A) : Type 0 where
   pub rising : IsTrue (is_sorted key_cmp order.tree.entries)
   pub counted : length order.tree.entries ≡ order.count

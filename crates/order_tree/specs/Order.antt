@@ -19,7 +19,7 @@ start_of group = record { group = group; class = 0; rank = 0; stamp = 0 }
 abbrev pub Entry : Type 0
 Entry = Key × ℕ
 
--- an entry as it is told where all leave: the stamp of its key, and its pid
+-- an entry as it is handed over when all leave: the stamp of its key, and its pid
 abbrev pub stamped : Entry → ℕ × ℕ
 stamped entry = (entry.0.stamp, entry.1)
 

@@ -15,11 +15,11 @@ rank_at key = (key.rank, key.stamp)
 abbrev pub key_at : queue.Key → Key
 key_at place = record { group = 0; class = 0; rank = place.0; stamp = place.1 }
 
--- a task as it is told where all leave: the stamp of its key, and its pid
+-- a task as it is handed over when all leave: the stamp of its key, and its pid
 abbrev pub stamped : queue.Key × ℕ → ℕ × ℕ
 stamped entry = (entry.0.1, entry.1)
 
--- the rank of the first task, none where there is no task
+-- the rank of the first task, none if there is no task
 abbrev pub least_rank : queue.Members → Option ℕ
 least_rank members = option_map (λ entry. entry.0.0) (slice_get (entries members) 0)
 

@@ -1,4 +1,4 @@
--- Recent: a tree beside which an entry stands that was put last. No public clause cites this module.
+-- Recent: a tree, and beside it the entry that was put last. No public clause cites this module.
 use Rattle.std.specs.Prelude.{◌≡◌, ℕ, ◌-◌, ◌<◌, ◌==◌, Bool, false, not, Option, Some, None, IfSome, if◌then◌else◌}
 use Rattle.std.specs.FinMap.{get, insert}
 use Rattle.std.specs.Option.{option_len, option_map}
@@ -39,7 +39,7 @@ abbrev pub is_past : Option Entry → Key → Bool
 is_past None key = false
 is_past (Some entry) key = not (is_lt (key_cmp key entry.0))
 
--- the entry, where its key is above another, or maybe at it
+-- the entry, if its key is above another, or maybe at it
 abbrev pub reaching : Bool → Key → Option Entry → Option Entry
 reaching at key None = None
 reaching at key (Some entry) = if reaches at (key_cmp entry.0 key) then Some entry else None
@@ -50,7 +50,7 @@ lesser None other = other
 lesser (Some entry) None = Some entry
 lesser (Some entry) (Some other) = if is_lt (key_cmp entry.0 other.0) then Some entry else Some other
 
--- the first entry of a tree from which a pid was taken: the old one, where that has another pid
+-- the first entry of a tree from which a pid was taken: the old one, if that has another pid
 abbrev pub renewed : Option Entry → ℕ → Option Entry → Option Entry
 renewed None taken anew = None
 renewed (Some entry) taken anew = if entry.1 == taken then anew else Some entry

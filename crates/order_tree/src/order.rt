@@ -76,8 +76,8 @@ impl OrderTree {
         }
     }
 
-    /// Raises `spare` to `n` keys where it is below. This call alone takes memory. An `Err`, for want of
-    /// it or where there would be more than 4294967295 keys, changes nothing.
+    /// Raises `spare` to `n` keys if it is below. This call alone takes memory. An `Err`, for want of it or if there
+    /// would be more than 4294967295 keys, changes nothing.
     pub fn reserve(&mut self, n: u32) -> Result<(), OutOfMemory>
         ensures members { self.new.members ≡ self.old.members }
         ensures spare { OnOk result (self.new.spare ≡ max n self.old.spare) }
@@ -127,7 +127,7 @@ impl<A> OrderTree<A> {
         self.spare -= 1;
     }
 
-    /// Takes out the pid at a key. `false` comes exactly where none is there, and then nothing changes.
+    /// Takes out the pid at a key. `false` comes exactly if none is there, and then nothing changes.
     pub fn remove<L: Ledger>(&mut self, key: &Key, steps: &mut Steps<L>) -> bool
         ensures found { result ≡ map.contains_key self.old.members key.now }
         ensures members { self.new.members ≡ map.remove self.old.members key.now }
@@ -156,7 +156,7 @@ impl<A> OrderTree<A> {
         free_all(&mut self.count, &mut self.spare);
     }
 
-    /// Tells all pids by rising key, each with the stamp of its key. It compares no key.
+    /// Hands over all pids by rising key, each with the stamp of its key. It compares no key.
     pub fn tell_into<M: Movers>(&self, movers: &mut M)
         requires fits { length (M.told movers.old) + map.len self.now.members ≤ 256 }
         ensures told { M.told movers.new ≡ M.told movers.old ++ list.map stamped (map.entries self.now.members) }
@@ -164,8 +164,7 @@ impl<A> OrderTree<A> {
         self.tree.tell(movers);
     }
 
-    /// Each key gets the rank and the stamp that its pid has now, with which the keys rise still. It compares no
-    /// key.
+    /// Each key gets the rank and the stamp that its pid has now, with which the keys still rise. It compares no key.
     pub fn renew<R: Renewal>(&mut self, renewal: &R)
         requires rising { IsTrue (map.is_sorted key_cmp (list.map (rekeyed (R.at renewal.now)) (map.entries self.old.members))) }
         ensures entries { map.entries self.new.members ≡ list.map (rekeyed (R.at renewal.now)) (map.entries self.old.members) }
@@ -175,7 +174,7 @@ impl<A> OrderTree<A> {
         look_anew(&mut self.first, &self.tree);
     }
 
-    /// The least key, and the pid there. `None` exactly where there is no key.
+    /// The least key, and the pid there. `None` exactly if there is no key.
     #[inline(always)]
     pub fn first(&self) -> Option<(Key, Pid)>
         ensures { result ≡ first_of self.now.members }
@@ -183,7 +182,7 @@ impl<A> OrderTree<A> {
         self.first
     }
 
-    /// The rank of the least key. `None` exactly where there is no key.
+    /// The rank of the least key. `None` exactly if there is no key.
     #[inline(always)]
     pub fn least_rank(&self) -> Option<u128>
         ensures { result ≡ option_map (λ entry. entry.0.rank) (first_of self.now.members) }
@@ -194,7 +193,7 @@ impl<A> OrderTree<A> {
         Some(key.rank)
     }
 
-    /// The least key that is not below this one, and the pid there. `None` exactly where each key is
+    /// The least key that is not below this one, and the pid there. `None` exactly if each key is
     /// below it.
     pub fn first_from<L: Ledger>(&self, key: &Key, steps: &mut Steps<L>) -> Option<(Key, Pid)>
         ensures first { result ≡ first_from self.now.members key.now }
@@ -203,7 +202,7 @@ impl<A> OrderTree<A> {
         entry_of(self.tree.seek(key, true, steps))
     }
 
-    /// The least key that is of this group or of a greater one, and the pid there. `None` exactly where each key is of a
+    /// The least key that is of this group or of a greater one, and the pid there. `None` exactly if each key is of a
     /// lesser group.
     #[inline(always)]
     pub fn first_in<L: Ledger>(&self, group: u64, steps: &mut Steps<L>) -> Option<(&Key, Pid)>
@@ -213,7 +212,7 @@ impl<A> OrderTree<A> {
         lend(self.tree.first_in(group, steps))
     }
 
-    /// The least key that is above this one, and the pid there. `None` exactly where no key is above it.
+    /// The least key that is above this one, and the pid there. `None` exactly if no key is above it.
     pub fn next<L: Ledger>(&self, key: &Key, steps: &mut Steps<L>) -> Option<(Key, Pid)>
         ensures next { result ≡ next_of self.now.members key.now }
         ensures counted { steps.new ≤ steps.old + 2 * digits (map.len self.now.members) }
@@ -241,7 +240,7 @@ fn free_all(count: &mut u32, spare: &mut u32)
     *count = 0;
 }
 
-/// The entry with the lesser key. Where one is not there it is the other.
+/// The entry with the lesser key. If one is not there, it is the other.
 #[inline(always)]
 pub fn lesser<L: Ledger>(
     one: Option<(Key, Pid)>,
@@ -266,7 +265,7 @@ pub fn lesser<L: Ledger>(
     }
 }
 
-/// The same of entries whose keys are lent, so that the caller copies the one that it gets and no more.
+/// The same for entries whose keys are lent, so that the caller copies the one that it gets and no more.
 #[inline(always)]
 pub fn lesser_lent<'a, L: Ledger>(
     one: Option<(&'a Key, Pid)>,
@@ -286,7 +285,7 @@ pub fn lesser_lent<'a, L: Ledger>(
     if left.0.is_below(right.0) { one } else { other }
 }
 
-/// Writes an entry where none is, or one with a greater key.
+/// Writes an entry where none is, or over one with a greater key.
 #[inline(always)]
 fn take_lesser<L: Ledger>(first: &mut Option<(Key, Pid)>, key: Key, pid: Pid, steps: &mut Steps<L>)
     ensures lesser { first.new ≡ lesser (Some (key, pid)) first.old }
@@ -302,7 +301,7 @@ fn take_lesser<L: Ledger>(first: &mut Option<(Key, Pid)>, key: Key, pid: Pid, st
     *first = Some((key, pid));
 }
 
-/// Looks in the tree for the first entry anew, where the old one had the pid that was taken out.
+/// Looks in the tree for the first entry anew, if the old one had the pid that was taken out.
 #[inline(always)]
 fn renew(first: &mut Option<(Key, Pid)>, taken: Pid, tree: &Tree)
     ensures { first.new ≡ renewed first.old taken (slice_get tree.now.entries 0) }
@@ -340,7 +339,7 @@ fn lend(node: Option<&Node>) -> Option<(&Key, Pid)>
     Some(node.lend())
 }
 
-/// So many nodes that stand for no key, in a list that has room for `places`. Here alone nodes are made.
+/// `count` nodes that stand for no key, in a list that has room for `places`. Here alone nodes are made.
 fn blank_nodes(
     alloc: Global,
     count: usize,

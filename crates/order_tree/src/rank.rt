@@ -75,7 +75,7 @@ impl<A> RankTree<A> {
         self.tree.insert(key(rank, stamp), pid, steps);
     }
 
-    /// Takes the task at a key out. `false` comes exactly where none is there, and then nothing
+    /// Takes the task at a key out. `false` comes exactly if none is there, and then nothing
     /// changes.
     pub fn take<L: Ledger>(&mut self, rank: u128, stamp: u64, steps: &mut Steps<L>) -> bool
         ensures found { result ≡ contains_key self.old.members (rank, stamp) }
@@ -86,8 +86,8 @@ impl<A> RankTree<A> {
         self.tree.remove(&key(rank, stamp), steps)
     }
 
-    /// The task with the least rank, and among those with the least stamp. `None` exactly where there
-    /// is no task.
+    /// The task with the least rank, and among those with the least stamp. `None` exactly if there is
+    /// no task.
     #[inline(always)]
     pub fn top<L: Ledger>(&self, steps: &mut Steps<L>) -> Option<Pid>
         ensures top { result ≡ top_of self.now.members }
@@ -112,7 +112,7 @@ impl<A> RankTree<A> {
         self.tree.clear();
     }
 
-    /// The task at a rank, which is there, has another rank, at which none has its stamp.
+    /// The task at a rank, which must be there, gets another rank, at which no task may have its stamp.
     #[inline(always)]
     pub fn set_rank<L: Ledger>(
         &mut self,
@@ -132,7 +132,7 @@ impl<A> RankTree<A> {
         self.tree.set_rank(&key(rank, stamp), later, pid, steps);
     }
 
-    /// The least rank. `None` exactly where there is no task.
+    /// The least rank. `None` exactly if there is no task.
     #[inline(always)]
     pub fn least_rank<L: Ledger>(&self, steps: &mut Steps<L>) -> Option<u128>
         ensures least { result ≡ least_rank self.now.members }
@@ -141,7 +141,7 @@ impl<A> RankTree<A> {
         self.tree.least_rank(steps)
     }
 
-    /// Each task is told by its stamp and its pid, in any order.
+    /// Hands over each task by its stamp and its pid, in any order.
     pub fn tell_into<M: Movers>(&self, movers: &mut M)
         requires fits { length (M.told movers.old) + len self.now.members ≤ 256 }
         ensures told { IsPermutation (M.told movers.old ++ map stamped (entries self.now.members)) (M.told movers.new) }

@@ -1,5 +1,4 @@
-//! A tree beside which the entry stands that was put last. It is apart, since it knows a tree by its contract
-//! alone.
+//! A tree, and beside it the entry that was put last. It is apart, since it knows a tree by its contract alone.
 
 ghost use Rattle.std.specs.Prelude as list;
 ghost use Rattle.std.specs.Prelude.{◌≡◌, ◌+◌, ◌<◌, ◌≤◌, ◌++◌, length, max, true, None, OnOk, OnErr, if◌then◌else◌, IsPermutation, IsTrue};
@@ -29,7 +28,7 @@ use std::sync::ledger::Ledger;
 #[derive(Drop)]
 pub struct RecentTree<A = Global> {
     tree: OrderTree<A>,
-    /// What was put last, where it was not taken out since, or what others were put behind since.
+    /// What was put last, not counting what stands after it in order, if it was not taken out since.
     recent: Option<(Key, Pid)>,
 }
 
@@ -60,8 +59,8 @@ impl RecentTree {
         }
     }
 
-    /// Raises `spare` to `n` keys where it is below. This call alone takes memory. An `Err`, for want of
-    /// it or where there would be more than 4294967295 keys, changes nothing.
+    /// Raises `spare` to `n` keys if it is below. This call alone takes memory. An `Err`, for want of it or if there
+    /// would be more than 4294967295 keys, changes nothing.
     pub fn reserve(&mut self, n: u32) -> Result<(), OutOfMemory>
         ensures members { self.new.members ≡ self.old.members }
         ensures spare { OnOk result (self.new.spare ≡ max n self.old.spare) }
@@ -85,8 +84,8 @@ impl RecentTree {
 }
 
 impl<A> RecentTree<A> {
-    /// Puts a pid at a key where none is. Where it is put behind the one beside the tree, it goes into the tree: the other
-    /// is the one that is likely to run, and then its key changes next.
+    /// Puts a pid at a key where none is. If it stands after the one beside the tree in order, it goes into the tree:
+    /// the other is the one that is likely to run, and then its key changes next.
     #[inline(always)]
     pub fn insert<L: Ledger>(&mut self, key: Key, pid: Pid, steps: &mut Steps<L>)
         requires spare { 0 < self.old.spare }
@@ -120,7 +119,7 @@ impl<A> RecentTree<A> {
         *other = pid;
     }
 
-    /// Takes out the pid at a key. `false` comes exactly where none is there, and then nothing changes.
+    /// Takes out the pid at a key. `false` comes exactly if none is there, and then nothing changes.
     #[inline(always)]
     pub fn remove<L: Ledger>(&mut self, key: &Key, steps: &mut Steps<L>) -> bool
         ensures found { result ≡ map.contains_key self.old.members key.now }
@@ -132,11 +131,11 @@ impl<A> RecentTree<A> {
             self.recent = None;
             return true;
         }
-        // The key is copied, so that that of the caller stays in registers where it is not looked for in the tree.
+        // The key is copied, so that the caller's own stays in registers if it is not looked for in the tree.
         self.tree.remove(&Key { ..*key }, steps)
     }
 
-    /// The pid at a key, which is there, gets another rank, at which none has the rest of its key. Where it
+    /// The pid at a key, which must be there, gets another rank. No pid may be at that with the rest of its key. If it
     /// stands beside the tree, it stays there.
     #[inline(always)]
     pub fn set_rank<L: Ledger>(&mut self, key: &Key, rank: u128, pid: Pid, steps: &mut Steps<L>)
@@ -168,7 +167,7 @@ impl<A> RecentTree<A> {
         self.tree.clear();
     }
 
-    /// Tells all pids, each with the stamp of its key, in any order. It compares no key.
+    /// Hands over all pids, each with the stamp of its key, in any order. It compares no key.
     pub fn tell_into<M: Movers>(&self, movers: &mut M)
         requires fits { length (M.told movers.old) + map.len self.now.members ≤ 256 }
         ensures told { IsPermutation (M.told movers.old ++ list.map stamped (map.entries self.now.members)) (M.told movers.new) }
@@ -179,7 +178,7 @@ impl<A> RecentTree<A> {
         self.tree.tell_into(movers);
     }
 
-    /// Each key gets the rank and the stamp that its pid has now, with which the keys rise still.
+    /// Each key gets the rank and the stamp that its pid has now, with which the keys still rise.
     pub fn renew<R: Renewal, L: Ledger>(&mut self, renewal: &R, steps: &mut Steps<L>)
         requires rising { IsTrue (map.is_sorted key_cmp (list.map (rekeyed (R.at renewal.now)) (map.entries self.old.members))) }
         ensures entries { map.entries self.new.members ≡ list.map (rekeyed (R.at renewal.now)) (map.entries self.old.members) }
@@ -192,7 +191,7 @@ impl<A> RecentTree<A> {
         self.tree.renew(renewal);
     }
 
-    /// The least key, and the pid there. `None` exactly where there is no key.
+    /// The least key, and the pid there. `None` exactly if there is no key.
     #[inline(always)]
     pub fn first<L: Ledger>(&self, steps: &mut Steps<L>) -> Option<(Key, Pid)>
         ensures first { result ≡ first_of self.now.members }
@@ -201,8 +200,8 @@ impl<A> RecentTree<A> {
         lesser(self.recent, self.tree.first(), steps)
     }
 
-    /// The rank of the least key, where all keys are of one group and one class: the lesser one of two ranks, whatever
-    /// the stamps are. `None` exactly where there is no key.
+    /// The rank of the least key, if all keys are of one group and one class: the lesser one of two ranks, whatever the
+    /// stamps are. `None` exactly if there is no key.
     #[inline(always)]
     pub fn least_rank<L: Ledger>(&self, steps: &mut Steps<L>) -> Option<u128>
         requires alike { IsOfClass self.now.members }
@@ -219,7 +218,7 @@ impl<A> RecentTree<A> {
         Some(key.rank.min(rank))
     }
 
-    /// The least key that is not below this one, and the pid there. `None` exactly where each key is
+    /// The least key that is not below this one, and the pid there. `None` exactly if each key is
     /// below it.
     pub fn first_from<L: Ledger>(&self, key: &Key, steps: &mut Steps<L>) -> Option<(Key, Pid)>
         ensures first { result ≡ first_from self.now.members key.now }
@@ -229,7 +228,7 @@ impl<A> RecentTree<A> {
         lesser(reaching(self.recent, key, true, steps), found, steps)
     }
 
-    /// The least key that is of this group or of a greater one, and the pid there. `None` exactly where each key is of a
+    /// The least key that is of this group or of a greater one, and the pid there. `None` exactly if each key is of a
     /// lesser group.
     pub fn first_in<L: Ledger>(&self, group: u64, steps: &mut Steps<L>) -> Option<(Key, Pid)>
         ensures first { result ≡ first_from self.now.members (start_of group) }
@@ -239,7 +238,7 @@ impl<A> RecentTree<A> {
         copied(lesser_lent(in_group(&self.recent, group, steps), found, steps))
     }
 
-    /// The least key that is above this one, and the pid there. `None` exactly where no key is above it.
+    /// The least key that is above this one, and the pid there. `None` exactly if no key is above it.
     pub fn next<L: Ledger>(&self, key: &Key, steps: &mut Steps<L>) -> Option<(Key, Pid)>
         ensures next { result ≡ next_of self.now.members key.now }
         ensures counted { steps.new ≤ steps.old + most_comparisons (map.len self.now.members) }
@@ -281,7 +280,7 @@ fn is_past<L: Ledger>(entry: &Option<(Key, Pid)>, key: &Key, steps: &mut Steps<L
     !key.is_below(other)
 }
 
-/// The entry, where its key is above this one, or also at it where `at` is true.
+/// The entry, if its key is above this one, or also at it if `at` is true.
 fn reaching<L: Ledger>(
     entry: Option<(Key, Pid)>,
     key: &Key,
@@ -302,7 +301,7 @@ fn reaching<L: Ledger>(
     }
 }
 
-/// The entry, where its key is of this group or of a greater one.
+/// The entry, if its key is of this group or of a greater one.
 #[inline(always)]
 fn in_group<'a, L: Ledger>(
     entry: &'a Option<(Key, Pid)>,

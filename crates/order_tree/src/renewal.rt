@@ -1,10 +1,10 @@
-//! What the keys of a tree become where all are renewed at once.
+//! What the keys of a tree become when all are renewed at once.
 
 ghost use Rattle.std.specs.Prelude.{◌≡◌, ℕ};
 
 use cs_types::Pid;
 
-/// New ranks and stamps for the keys of a tree, told by the pids that stand there.
+/// New ranks and stamps for the keys of a tree, by the pids that stand there.
 pub trait Renewal {
     /// The rank and the stamp that a pid's key gets in place of these.
     ghost at: { Self → ℕ → ℕ × ℕ → ℕ × ℕ };

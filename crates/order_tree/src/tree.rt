@@ -106,7 +106,7 @@ impl Node {
     }
 
     /// Its key, and those of the nodes below it, get the rank and the stamp that their pids have now, with which they
-    /// rise still. A walk so calls no tree that is empty.
+    /// still rise. A walk so calls no tree that is empty.
     fn renew<R: Renewal>(&mut self, renewal: &R)
         requires even { IsEven self.old }
         requires rising { IsTrue (is_sorted key_cmp (map (rekeyed (R.at renewal.now)) (under self.old).entries)) }
@@ -130,7 +130,8 @@ impl Node {
         }
     }
 
-    /// The node of the least key that is of this group or of a greater one, among its own, which is, and the lesser ones.
+    /// The node of the least key that is of this group or of a greater one, among its own key, which must be so, and
+    /// the lesser ones.
     #[inline(always)]
     fn first_in<L: Ledger>(&self, group: u64, steps: &mut Steps<L>) -> &Node
         requires own { group ≤ self.now.key.group }
@@ -204,8 +205,8 @@ impl Tree {
         Some(node)
     }
 
-    /// The node of the first entry whose key is above this one, or also at it where `at` is true. It is out of line,
-    /// since a loop within a caller keeps the compiler from seeing all that the caller writes.
+    /// The node of the first entry whose key is above this one, or also at it if `at` is true. It is out of line, since
+    /// a loop within a caller keeps the compiler from seeing all that the caller writes.
     #[inline(never)]
     pub fn seek<L: Ledger>(&self, key: &Key, at: bool, steps: &mut Steps<L>) -> Option<&Node>
         ensures found { entry_at result ≡ list.find (λ entry. reaches at (key_cmp entry.0 key.now)) self.now.entries }
@@ -226,8 +227,8 @@ impl Tree {
         found
     }
 
-    /// The same for the least key of a group, or at it. It reads the groups alone. Down to the first node of the group or
-    /// of a greater one it has found none, and from there on it has one, so that neither walk keeps whether it has.
+    /// The same for the least key of a group, or at it. It reads the groups alone. Down to the first node of the group
+    /// or of a greater one it has found none, and from there on it has one, so that neither walk keeps whether it has.
     #[inline(never)]
     pub fn first_in<L: Ledger>(&self, group: u64, steps: &mut Steps<L>) -> Option<&Node>
         ensures found { entry_at result ≡ list.find (λ entry. reaches true (key_cmp entry.0 (start_of group))) self.now.entries }
@@ -245,8 +246,8 @@ impl Tree {
         None
     }
 
-    /// Puts the node in its place, where no entry has its key. The result tells whether the tree is a level
-    /// higher then. It is inlined, so that a walk calls nothing for an empty side.
+    /// Puts the node in its place. No entry may have its key. The result tells whether the tree is a level higher then.
+    /// It is inlined, so that a walk calls nothing for an empty side.
     #[cycle(insert)]
     #[inline(always)]
     pub fn insert<L: Ledger>(&mut self, node: Box<Node>, steps: &mut Steps<L>) -> bool
@@ -263,7 +264,7 @@ impl Tree {
         Tree::insert_below(root, node, steps)
     }
 
-    /// The same of a tree with this root.
+    /// The same for a tree with this root.
     #[cycle(insert)]
     #[inline(never)]
     fn insert_below<L: Ledger>(root: &mut Box<Node>, node: Box<Node>, steps: &mut Steps<L>) -> bool
@@ -331,7 +332,7 @@ impl Tree {
         parts.right.give(nodes);
     }
 
-    /// Tells its pids by rising key, each with the stamp of its key. It compares no key.
+    /// Hands over its pids by rising key, each with the stamp of its key. It compares no key.
     pub fn tell<M: Movers>(&self, movers: &mut M)
         requires fits { length (M.told movers.old) + length self.now.entries ≤ 256 }
         ensures told { M.told movers.new ≡ M.told movers.old ++ map stamped self.now.entries }
@@ -344,8 +345,8 @@ impl Tree {
         node.right.tell(movers);
     }
 
-    /// Each key gets the rank and the stamp that its pid has now, with which the keys rise still. It compares no
-    /// key, and moves no node.
+    /// Each key gets the rank and the stamp that its pid has now, with which the keys still rise. It compares no key,
+    /// and moves no node.
     #[inline(always)]
     pub fn renew<R: Renewal>(&mut self, renewal: &R)
         requires rising { IsTrue (is_sorted key_cmp (map (rekeyed (R.at renewal.now)) self.old.entries)) }
@@ -357,8 +358,8 @@ impl Tree {
         }
     }
 
-    /// Takes out the entry at the key, and puts the node that is spare then where none is. It stays `None` exactly
-    /// where no entry has the key. The result tells whether the tree is a level lower then.
+    /// Takes out the entry at the key, and puts the node that is spare then where none is. That place stays `None`
+    /// exactly if no entry has the key. The result tells whether the tree is a level lower then.
     pub fn remove<L: Ledger>(
         &mut self,
         key: &Key,
@@ -401,7 +402,7 @@ impl Tree {
     }
 }
 
-/// Whether a key that compares so with another is above it, or at it where `at` is true.
+/// Whether a key that compares so with another is above it, or at it if `at` is true.
 pub fn reaches(order: Ordering, at: bool) -> bool
     ensures { result ≡ reaches at order }
 {

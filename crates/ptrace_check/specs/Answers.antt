@@ -11,8 +11,8 @@ use Rattle.ptrace_check.specs.declared.answer.UnloadAnswer.TheVariants as unload
 
 -- ---- teaching a guard on the bench
 
--- What an answer to a pair that is to be taught says of the guard: whether it stands on the bench, and how many pairs it
--- has and can have. Of the want of memory nothing is said.
+-- What an answer to a pair that is to be taught says of the guard: whether it stands on the bench, and how many pairs
+-- it has and can have. Nothing is said of a lack of memory.
 abbrev pub IsTeachAnswer : GuardState → ℕ → TeachAnswer → Type 0
 IsTeachAnswer guard cap Taught = IsTrue (is_bench guard.place) × (length guard.pairs < cap)
 IsTeachAnswer guard cap NoGuard = IsTrue (not (is_bench guard.place))

@@ -21,8 +21,8 @@ turns_of active index = count_by (λ other. other == index) active
 abbrev pub most_turns : GuardState → ℕ
 most_turns guard = if is_active guard.place then 1 else 0
 
--- Only an active guard stands in the order of loading, and once. With those on the bench these are at most all guards, and
--- there are places for all.
+-- Only an active guard stands in the order of loading, and once. With those on the bench these are at most all guards,
+-- and there are places for all.
 pub record AreKept (guards : GuardList) (places : ℕ) : Type 0 where
   pub once : (index : ℕ) → turns_of guards.active index ≤ most_turns (guard_of guards index)
   pub parts : length guards.active + bench_count guards.all ≤ length guards.all

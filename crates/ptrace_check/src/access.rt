@@ -31,9 +31,9 @@ fn is_undumpable(target: &Creds) -> bool
     target.mm && !target.dumpable
 }
 
-/// What the rules of the kernel itself decide: the first that decides. `None` where none does. A task may
-/// access those of its thread group. It may access another only with CAP_SYS_PTRACE where that is not the
-/// same user, may not be dumped, or has CAP_SYS_PTRACE itself.
+/// What the rules of the kernel itself decide: the first that decides. `None` if none does. A task may access those of
+/// its thread group. It may access another only with CAP_SYS_PTRACE if that is not the same user's, may not be dumped,
+/// or has CAP_SYS_PTRACE itself.
 fn kernel_decision(caller: &TaskSpec, target: &TaskSpec) -> Option<bool>
     ensures { result ≡ option_map (λ rule. rule.allows) (find (λ rule. rule.decides) (kernel_rules caller.now target.now)) }
 {
@@ -52,10 +52,9 @@ fn kernel_decision(caller: &TaskSpec, target: &TaskSpec) -> Option<bool>
     None
 }
 
-/// Whether the caller may access the target: what the rules of the kernel decide. Where they decide
-/// nothing, the active guards are asked about the two real users, in the order of loading, up to the first
-/// that refuses. Each counts that it was asked. So nobody is asked about a task of the thread group, nor
-/// where the kernel refuses. It takes no memory.
+/// Whether the caller may access the target: what the rules of the kernel decide. If they decide nothing, the active
+/// guards are asked about the two real users, in the order of loading, up to the first that refuses. Each counts that
+/// it was asked. So no guard is asked about a task of the thread group, nor if the kernel refuses. It takes no memory.
 #[inline(always)]
 pub fn may_access<G: Guard>(caller: &TaskSpec, target: &TaskSpec, guards: &mut Guards<G>) -> bool
     requires asked { All (λ guard. guard.asked < 2 ^ 63) guards.old.guards.all }

@@ -92,7 +92,7 @@ impl<G: Guard> Guards<G> {
         self.active.len() as u8
     }
 
-    /// What is shown of the guard of this number. `None` exactly where there is no such guard.
+    /// What is shown of the guard of this number. `None` exactly if there is no such guard.
     pub fn view(&self, index: u8) -> Option<GuardView>
         ensures view { result ≡ guard_view self.now.guards index }
         ensures few { length self.now.guards.all ≤ most_guards }
@@ -102,7 +102,7 @@ impl<G: Guard> Guards<G> {
     }
 
     /// Teaches the guard of this number to refuse one more pair of real user ids, a caller's and a
-    /// target's. `NoGuard` comes exactly where it does not stand on the bench. Only `Taught` changes
+    /// target's. `NoGuard` comes exactly if it does not stand on the bench. Only `Taught` changes
     /// anything.
     pub fn teach(&mut self, index: u8, from: u32, to: u32) -> TeachAnswer
         ensures answer { IsTeachAnswer (guard_of self.old.guards index) (cap_of self.old.caps index) result }
@@ -115,8 +115,8 @@ impl<G: Guard> Guards<G> {
         seat.teach(from, to)
     }
 
-    /// Makes the guard of this number active, the last to be asked. `NoGuard` comes exactly where it does
-    /// not stand on the bench, and nothing changes then.
+    /// Makes the guard of this number active, the last to be asked. `NoGuard` comes exactly if it does not stand on the
+    /// bench, and nothing changes then.
     pub fn load(&mut self, index: u8) -> LoadAnswer
         ensures answer { result ≡ load_answer (guard_of self.old.guards index) }
         ensures guards { self.new.guards ≡ load self.old.guards index }
@@ -132,7 +132,7 @@ impl<G: Guard> Guards<G> {
         answer
     }
 
-    /// Drops the guard of this number, and keeps its count. `NoGuard` comes exactly where it is not
+    /// Drops the guard of this number, and keeps its count. `NoGuard` comes exactly if it is not
     /// active, and nothing changes then.
     pub fn unload(&mut self, index: u8) -> UnloadAnswer
         ensures answer { result ≡ unload_answer (guard_of self.old.guards index) }

@@ -4,7 +4,7 @@ use Rattle.std.specs.FinMap.{entries, from_sorted, len}
 use Rattle.cs_types.specs.Queue.{Members, Ranked, Seat, Seated}
 use Rattle.run_queue.specs.declared.classes.Classes.TheInside.{Inside}
 
--- a task as it is told where all leave: the stamp of its seat, and its pid
+-- a task as it is handed over when all leave: the stamp of its seat, and its pid
 abbrev pub stamped : Seat × ℕ → ℕ × ℕ
 stamped entry = (entry.0.1.1, entry.1)
 

@@ -9,11 +9,11 @@ use Rattle.run_queue.specs.declared.queue.RunQueue.TheInside.{Inside}
 abbrev pub run_of : {A : Type 0} → Inside A → RunQueued
 run_of run = record { tasks = run.classes.tasks; cookies = run.cookies.tasks; spare = run.classes.spare }
 
--- the tasks with cookies but for this one, which stands among them where it has a cookie (`sched_core_dequeue`)
+-- the tasks with cookies but for this one, which stands among them if it has a cookie (`sched_core_dequeue`)
 abbrev pub without : Queued → Spots → Spots
 without task cookies = if task.cookie == 0 then cookies else remove cookies (spot_of task)
 
--- and with this one, where it has a cookie (`sched_core_enqueue`)
+-- and with this one, if it has a cookie (`sched_core_enqueue`)
 abbrev pub including : Queued → Spots → Spots
 including task cookies = if task.cookie == 0 then cookies else insert cookies (spot_of task) task.pid
 

@@ -65,8 +65,8 @@ impl Classes {
         }
     }
 
-    /// Raises `spare` to `n` tasks of any class where it is below. This call alone takes memory.
-    /// An `Err`, for want of it or where there would be more than 4294967295 tasks, changes nothing.
+    /// Raises `spare` to `n` tasks of any class if it is below. This call alone takes memory. An
+    /// `Err`, for want of it or if there would be more than 4294967295 tasks, changes nothing.
     pub fn reserve(&mut self, n: u32) -> Result<(), OutOfMemory>
         ensures tasks { self.new.tasks ≡ self.old.tasks }
         ensures spare { OnOk result (self.new.spare ≡ max n self.old.spare) }
@@ -115,7 +115,7 @@ impl<A> Classes<A> {
         }
     }
 
-    /// Takes the task at the seat of this one out. `false` comes exactly where none is there, and then
+    /// Takes the task at the seat of this one out. `false` comes exactly if none is there, and then
     /// nothing changes.
     pub fn dequeue<L: Ledger>(&mut self, task: &Queued, steps: &mut Steps<L>) -> bool
         requires class { task.now.class ≤ fair_class }
@@ -132,7 +132,7 @@ impl<A> Classes<A> {
         }
     }
 
-    /// The fair task at a rank, which is there, has another rank, at which none has its stamp.
+    /// The fair task at a rank, which must be there, gets another rank, at which none may have its stamp.
     #[inline(always)]
     pub fn set_fair_rank<L: Ledger>(
         &mut self,
@@ -164,7 +164,7 @@ impl<A> Classes<A> {
         self.fair.clear();
     }
 
-    /// Each task is told by its stamp and its pid, in any order.
+    /// Hands over each task by its stamp and its pid, in any order.
     pub fn tell_into<M: Movers>(&self, movers: &mut M)
         requires fits { length (M.told movers.old) + map.len self.now.tasks ≤ 256 }
         ensures told { IsPermutation (M.told movers.old ++ list.map stamped (map.entries self.now.tasks)) (M.told movers.new) }
@@ -189,16 +189,16 @@ impl<A> Classes<A> {
     }
 
     /// The pid of the first task: the one of the highest class, in that of the least rank, and among
-    /// those with the least stamp. `None` exactly where there is no task.
+    /// those with the least stamp. `None` exactly if there is no task.
     pub fn first<L: Ledger>(&self, steps: &mut Steps<L>) -> Option<Pid>
         ensures first { result ≡ top_of self.now.tasks }
 
-        // Where this is the queue of some tasks of a room, it is the first of them.
+        // If this is the queue of some tasks of a room, it is the first of them.
         ensures model { (tasks : List Task) → self.now.tasks ≡ queue_of tasks →
             All (λ task. priority_of task.spec.policy ≤ 99) tasks →
             result ≡ option_map (λ task. task.spec.pid) (first_of tasks) }
 
-        // Of the classes only that of the first task has one. In each other at most two comparisons tell so.
+        // Of the classes that are asked only the last has a task. At most two comparisons show that another has none.
         ensures counted { steps.new ≤ steps.old + most_comparisons (map.len self.now.tasks) + 6 }
     {
         if let Some(pid) = self.stop.top(steps) {
@@ -213,7 +213,7 @@ impl<A> Classes<A> {
         self.first_fair(steps)
     }
 
-    /// The pid of the first fair task. `None` exactly where there is none.
+    /// The pid of the first fair task. `None` exactly if there is none.
     pub fn first_fair<L: Ledger>(&self, steps: &mut Steps<L>) -> Option<Pid>
         ensures first { result ≡ first_in fair_class self.now.tasks }
         ensures counted { steps.new ≤ steps.old + most_comparisons (map.len self.now.tasks) }
@@ -221,7 +221,7 @@ impl<A> Classes<A> {
         self.fair.top(steps)
     }
 
-    /// The rank of the first fair task. `None` exactly where there is none.
+    /// The rank of the first fair task. `None` exactly if there is none.
     #[inline(always)]
     pub fn least_fair<L: Ledger>(&self, steps: &mut Steps<L>) -> Option<u128>
         ensures least { result ≡ least_rank_in fair_class self.now.tasks }

@@ -23,8 +23,8 @@ use std::alloc::Global;
 use std::marker::Model;
 use std::sync::ledger::Ledger;
 
-/// The queued tasks of one sibling, by class, in a class by rank, and at equal ranks by stamp, and those of
-/// them that have a cookie. The sibling is idle where there is none.
+/// The queued tasks of one sibling, by class, in a class by rank, and at equal ranks by stamp, and those of them that
+/// have a cookie. The sibling is idle if there is none.
 ///
 /// With n tasks a call of the ordered tree makes at most twice the number of binary digits of n
 /// comparisons, and two more. The calls here make a small multiple of that.
@@ -64,8 +64,8 @@ impl RunQueue {
         }
     }
 
-    /// Raises `spare` to `n` tasks of any class where it is below. This call alone takes memory.
-    /// An `Err`, for want of it or where there would be more than 4294967295 tasks, changes nothing.
+    /// Raises `spare` to `n` tasks of any class if it is below. This call alone takes memory. An
+    /// `Err`, for want of it or if there would be more than 4294967295 tasks, changes nothing.
     pub fn reserve(&mut self, n: u32) -> Result<(), OutOfMemory>
         ensures tasks { self.new.tasks ≡ self.old.tasks }
         ensures cookies { self.new.cookies ≡ self.old.cookies }
@@ -105,8 +105,8 @@ impl<A> RunQueue<A> {
         self.enter_cookies(task, steps);
     }
 
-    /// Takes the task at the seat of this one out, which has its pid and its cookie. `false` comes exactly
-    /// where none is there, and then nothing changes.
+    /// Takes the task at the seat of this one out, which has its pid and its cookie. `false` comes exactly if none is
+    /// there, and then nothing changes.
     pub fn dequeue<L: Ledger>(&mut self, task: &Queued, steps: &mut Steps<L>) -> bool
         requires ranked { IsRanked task.now }
         requires same { IfSome (map.get self.old.cookies (spot_of task.now)) (λ pid. pid ≡ task.now.pid) }
@@ -122,7 +122,7 @@ impl<A> RunQueue<A> {
         self.classes.dequeue(task, steps)
     }
 
-    /// The task leaves the cookie order (`sched_core_dequeue`), where it has a cookie.
+    /// The task leaves the cookie order (`sched_core_dequeue`), if it has a cookie.
     #[inline(always)]
     fn leave_cookies<L: Ledger>(&mut self, task: &Queued, steps: &mut Steps<L>)
         requires ranked { IsRanked task.now }
@@ -140,7 +140,7 @@ impl<A> RunQueue<A> {
         }
     }
 
-    /// The task, which is there, enters the cookie order (`sched_core_enqueue`), where it has a cookie.
+    /// The task, which is there, enters the cookie order (`sched_core_enqueue`), if it has a cookie.
     #[inline(always)]
     fn enter_cookies<L: Ledger>(&mut self, task: Queued, steps: &mut Steps<L>)
         requires ranked { IsRanked task }
@@ -160,8 +160,8 @@ impl<A> RunQueue<A> {
     }
 
     /// The task, which is there with its pid and its cookie, gets this cookie (`sched_core_update_cookie`,
-    /// kernel/sched/core_sched.c): it leaves the cookie order at its old one and enters it at the new one, where
-    /// these are not 0. The queue of its class is not touched.
+    /// kernel/sched/core_sched.c): it leaves the cookie order at its old one and enters it at the new one, if these are
+    /// not 0. The queue of its class is not touched.
     #[inline(always)]
     pub fn set_cookie<L: Ledger>(&mut self, task: &Queued, cookie: Cookie, steps: &mut Steps<L>)
         requires ranked { IsRanked task.now }
@@ -178,8 +178,8 @@ impl<A> RunQueue<A> {
         self.enter_cookies(Queued { cookie, ..*task }, steps);
     }
 
-    /// The fair task, which is there with its pid and its cookie, has another rank, at which none has its stamp: it
-    /// stands by that in its class, and in the cookie order, where it has a cookie.
+    /// The fair task, which is there with its pid and its cookie, gets another rank, at which none may have its stamp:
+    /// it stands by that in its class, and in the cookie order, if it has a cookie.
     #[inline(always)]
     pub fn set_fair_rank<L: Ledger>(&mut self, task: &Queued, rank: u128, steps: &mut Steps<L>)
         requires fair { task.now.class ≡ fair_class }
@@ -212,7 +212,7 @@ impl<A> RunQueue<A> {
         self.cookies.clear();
     }
 
-    /// Each task is told by its stamp and its pid, in any order.
+    /// Hands over each task by its stamp and its pid, in any order.
     pub fn tell_into<M: Movers>(&self, movers: &mut M)
         requires fits { length (M.told movers.old) + map.len self.now.tasks ≤ 256 }
         ensures told { IsPermutation (M.told movers.old ++ list.map stamped (map.entries self.now.tasks)) (M.told movers.new) }
@@ -237,27 +237,26 @@ impl<A> RunQueue<A> {
     }
 
     /// The pid of the first task: the one of the highest class, in that of the least rank, and among
-    /// those with the least stamp. `None` exactly where there is no task.
+    /// those with the least stamp. `None` exactly if there is no task.
     pub fn first<L: Ledger>(&self, steps: &mut Steps<L>) -> Option<Pid>
         ensures first { result ≡ top_of self.now.tasks }
 
-        // Where this is the queue of some tasks of a room, it is the first of them.
+        // If this is the queue of some tasks of a room, it is the first of them.
         ensures model { (tasks : List Task) → self.now.tasks ≡ queue_of tasks →
             All (λ task. priority_of task.spec.policy ≤ 99) tasks →
             result ≡ option_map (λ task. task.spec.pid) (first_of tasks) }
 
-        // Of the classes only that of the first task has one. In each other at most two comparisons tell so.
+        // Of the classes that are asked only the last has a task. At most two comparisons show that another has none.
         ensures counted { steps.new ≤ steps.old + most_comparisons (map.len self.now.tasks) + 6 }
     {
         self.classes.first(steps)
     }
 
-    /// The highest task with the cookie (`sched_core_find`, kernel/sched/core.c). `None` exactly where no
-    /// task has it.
+    /// The highest task with the cookie (`sched_core_find`, kernel/sched/core.c). `None` exactly if no task has it.
     pub fn first_of<L: Ledger>(&self, cookie: Cookie, steps: &mut Steps<L>) -> Option<Queued>
         ensures first { result ≡ first_with self.now.cookies cookie }
 
-        // Where this is the queue of some tasks of a room, it is the first of those with the cookie.
+        // If this is the queue of some tasks of a room, it is the first of those with the cookie.
         ensures model { (tasks : List Task) → self.now.cookies ≡ spotted (list.map queued_of tasks) →
             All (λ task. priority_of task.spec.policy ≤ 99) tasks → cookie ≢ 0 →
             result ≡ option_map queued_of (first_of (list.filter (λ task. task.cookie == cookie) tasks)) }
@@ -268,12 +267,12 @@ impl<A> RunQueue<A> {
     }
 
     /// The highest task with the cookie of this one that is lower than it (`sched_core_next`,
-    /// kernel/sched/core.c). `None` exactly where no task with the cookie is lower.
+    /// kernel/sched/core.c). `None` exactly if no task with the cookie is lower.
     pub fn next_of<L: Ledger>(&self, task: &Queued, steps: &mut Steps<L>) -> Option<Queued>
         requires { IsRanked task.now }
         ensures next { result ≡ next_with self.now.cookies task.now }
 
-        // Where this is the queue of some tasks of a room, it is the first of those with the cookie behind the task.
+        // If this is the queue of some tasks of a room, it is the first of those with the cookie after the task.
         ensures model { (tasks : List Task) (above : Task) → self.now.cookies ≡ spotted (list.map queued_of tasks) →
             All (λ task. priority_of task.spec.policy ≤ 99) tasks → task.now ≡ queued_of above →
             priority_of above.spec.policy ≤ 99 → above.cookie ≢ 0 →
@@ -284,7 +283,7 @@ impl<A> RunQueue<A> {
         self.cookies.next_of(task, steps)
     }
 
-    /// The rank of the first fair task. `None` exactly where there is none.
+    /// The rank of the first fair task. `None` exactly if there is none.
     #[inline(always)]
     pub fn least_fair<L: Ledger>(&self, steps: &mut Steps<L>) -> Option<u128>
         ensures least { result ≡ least_rank_in fair_class self.now.tasks }

@@ -16,9 +16,9 @@ use Rattle.sibling_priority.specs.declared.standing.Standing.{Standing}
 abbrev pub are_both : ℕ → Offer → Offer → Bool
 are_both class a b = (a.class == class) && (b.class == class)
 
--- An offer is higher where its class is; or both are deadline, or both real-time, and its rank is smaller; or both
--- are fair and its virtual time is smaller, each taken from its own sibling's snapshot (`cfs_prio_less`). Every other
--- pair is a tie (that equal deadlines are one is this project's rule).
+-- An offer is higher if its class is; or both are deadline, or both real-time, and its rank is smaller; or both are
+-- fair and its virtual time is smaller, each taken from its own sibling's snapshot (`cfs_prio_less`). Every other pair
+-- is a tie (that equal deadlines are one is this project's rule).
 abbrev pub is_higher_offer : Offer → Offer → Bool
 is_higher_offer a b =
     nat_lt a.class b.class
@@ -36,9 +36,9 @@ IsInRange offer = offer.class ≡ fair_class → (offer.rank < 2 ^ 127) × (offe
 
 -- ---- how an offer stands
 
--- The rank of a first task among those of its class on all siblings, by the snapshot of its own sibling, its class and its
--- rank: its rank. Of a fair one the snapshot is taken off, and a number that no snapshot comes to is added before, so that
--- nothing is below 0.
+-- The rank of a first task among those of its class on all siblings, by the snapshot of its own sibling, its class and
+-- its rank: its rank. Of a fair one the snapshot is taken off, and a number that no snapshot comes to is added before,
+-- so that nothing is below 0.
 abbrev pub rank_across : ℕ → ℕ → ℕ → ℕ
 rank_across snapshot class rank = if class == fair_class then rank + 2 ^ 127 - snapshot else rank
 
@@ -50,7 +50,7 @@ is_above a b = nat_lt a.class b.class || ((a.class == b.class) && nat_lt a.rank 
 abbrev pub is_ranked : ℕ → Bool
 is_ranked class = (class == deadline_class) || (class == real_time_class) || (class == fair_class)
 
--- how an offer stands: by its rank across siblings, and by 0 where its class has no ranks
+-- how an offer stands: by its rank across siblings, and by 0 if its class has no ranks
 abbrev pub standing_of : Offer → Standing
 standing_of offer =
     record {

@@ -3,8 +3,8 @@
 
 use cs_types::{Cpu, Pid};
 
-/// The class of a sibling that has no task (`idle_sched_class`), the lowest. A task has one of the classes of
-/// `Queued`, whose numbers rise where the kernel's `__task_prio` rises.
+/// The class of a sibling that has no task (`idle_sched_class`), the lowest. A task has one of the classes of `Queued`,
+/// whose numbers rise as the kernel's `__task_prio` does.
 pub const IDLE: u8 = 4;
 
 /// The first task of a sibling, as the order reads it.

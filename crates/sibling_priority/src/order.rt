@@ -26,10 +26,10 @@ fn standing_of(offer: &Offer) -> Standing
     }
 }
 
-/// Whether one offer is higher than another, where every pair that this leaves open is a tie
-/// (`prio_less` in kernel/sched/core.c with its sides swapped, and `cfs_prio_less` in
-/// kernel/sched/fair.c for two fair tasks). Two equal deadlines tie here, where `prio_less` answers
-/// of each that it is lower.
+/// Whether one offer is higher than another; every pair that this leaves open is a tie (`prio_less`
+/// in kernel/sched/core.c with its sides swapped, and `cfs_prio_less` in kernel/sched/fair.c for
+/// two fair tasks). Two equal deadlines tie here, while `prio_less` answers of each that it is
+/// lower.
 pub fn higher(a: &Offer, b: &Offer) -> bool
     requires a_in_range { IsInRange a.now }
     requires b_in_range { IsInRange b.now }
@@ -42,8 +42,8 @@ pub fn higher(a: &Offer, b: &Offer) -> bool
     standing_of(a).is_above(&standing_of(b))
 }
 
-/// The index of the lead: the first offer than which no other is higher (`max` in
-/// `pick_next_task`, kernel/sched/core.c, where the last of equal deadlines leads).
+/// The index of the lead: the first offer than which no other is higher (`max` in `pick_next_task`,
+/// kernel/sched/core.c; there the last of equal deadlines leads).
 pub fn lead(offers: &[Offer]) -> usize
     requires some { 0 < length offers.now }
     requires in_range { All IsInRange offers.now }

@@ -15,7 +15,7 @@ const ABOVE_SNAPSHOTS: u128 = 1 << 127;
 pub struct Standing {
     /// Its class, the smaller the higher.
     pub class: u32,
-    /// Its rank across siblings (`rank_across`), the smaller the higher. 0 where the class has no ranks.
+    /// Its rank across siblings (`rank_across`), the smaller the higher. 0 if the class has no ranks.
     pub rank: u128,
 }
 
@@ -30,7 +30,7 @@ impl Standing {
 }
 
 /// The rank of a first task of this class and this rank among those of its class on all siblings, under the snapshot of
-/// its own sibling in ns. That of a fair task is told from its snapshot, as are all times that are compared across
+/// its own sibling in ns. That of a fair task is measured from its snapshot, as are all times that are compared across
 /// siblings (`cfs_prio_less` in kernel/sched/fair.c).
 #[inline(always)]
 pub fn rank_across(class: u8, rank: u128, snapshot: u128) -> u128

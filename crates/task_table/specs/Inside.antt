@@ -40,31 +40,32 @@ pub record IsSlotOf (key pid : ℕ) (entries : List Entry) (tasks : List Task) :
   pub is : entry ≡ slice_index_or entries position entry
   pub slot : entry.key ≡ key
 
--- whether an entry tells that its task is of the group
+-- whether an entry says that its task is of the group
 abbrev pub tells_group : Group → Entry → Bool
 tells_group All entry = true
 tells_group (Threads leader) entry = entry.tgid == leader
 tells_group (Process number) entry = entry.pgid == number
 
--- the thread group and the process group of a task, and those that an entry tells
+-- the thread group and the process group of a task, and those that an entry has
 abbrev pub groups_of : Task → ℕ × ℕ
 groups_of task = (task.spec.tgid, task.spec.pgid)
 
 abbrev pub groups_told : Entry → ℕ × ℕ
 groups_told entry = (entry.tgid, entry.pgid)
 
--- each entry tells the groups of its task
+-- each entry has the groups of its task
 abbrev pub TellGroups : List Entry → List Task → Type 0
 TellGroups entries tasks = map groups_told entries ≡ map groups_of tasks
 
--- a walk over these entries finds a task in each slot, and its groups in the entry, and at most so many are of the group
+-- a walk over these entries finds a task in each slot, and its groups in the entry, and at most this many are of the
+-- group
 pub record IsWalk (slots : Slotted) (entries : List Entry) (group : Group) (most : ℕ) : Type 0 where
   pub filled : EachFilled slots entries
   pub told : TellGroups entries (tasks_at slots entries)
   pub bound : length (filter (is_in_group group) (tasks_at slots entries)) ≤ most
 
--- the entries name all slots that have a task, these tasks make a sound table, the spans count them, and the slots can take
--- the limit
+-- the entries name all slots that have a task, these tasks make a sound table, the spans count them, and the slots can
+-- take the limit
 pub record IsKept (slots : Slotted) (entries : List Entry) (threads processes : List Span) (room limit : ℕ) (tasks : List Task) : Type 0 where
   pub holds : Holds slots entries tasks
   pub index : IsIndexOf entries tasks

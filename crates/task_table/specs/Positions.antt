@@ -8,7 +8,7 @@ use Rattle.task_table.specs.Table.{pid_of, RisesFrom}
 abbrev pub IsIndexOf : List Entry → List Task → Type 0
 IsIndexOf entries tasks = map (λ entry. entry.pid) entries ≡ map pid_of tasks
 
--- the task at the position has the pid, those before it have a lower one, and those behind it rise from above it
+-- the task at the position has the pid, those before it have a lower one, and those after it rise from above it
 abbrev pub IsAt : ℕ → ℕ → List Task → Type 0
 IsAt pid position [] = ⊥
 IsAt pid zero (task ∷ rest) = (task.spec.pid ≡ pid) × RisesFrom (pid + 1) rest

@@ -6,13 +6,14 @@ use Rattle.cs_types.specs.Room.{has_pid}
 use Rattle.task_table.specs.declared.fault.AddFault.{AddFault}
 use Rattle.task_table.specs.declared.fault.AddFault.TheVariants.{Twice, Full}
 
--- the living tasks by rising pid, what each was charged for forced idle by its pid, in ns, and how many tasks there may be
+-- the living tasks by rising pid, what each was charged for forced idle by its pid, in ns, and how many tasks there may
+-- be
 pub record Table : Type 0 where
   pub tasks : List Task
   pub totals : List (ℕ × ℕ)
   pub limit : ℕ
 
--- what a task was charged, of totals by pid: 0 where it is not among them
+-- what a task was charged, of totals by pid: 0 if it is not among them
 abbrev pub total_among : List (ℕ × ℕ) → ℕ → ℕ
 total_among totals pid = sum_by (λ total. if total.0 == pid then total.1 else 0) totals
 

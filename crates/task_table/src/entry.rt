@@ -69,7 +69,7 @@ fn has_any(entries: &[Entry], group: Group) -> bool
     any
 }
 
-/// From where on an entry of the group is looked for: the blocks between have none.
+/// The position from which on an entry of the group is looked for: the blocks before it have none.
 fn clear_to(entries: &[Entry], from: usize, group: Group) -> usize
     requires from { from ≤ length entries.now }
     ensures within { result ≤ length entries.now }
@@ -86,14 +86,14 @@ fn clear_to(entries: &[Entry], from: usize, group: Group) -> usize
     clear
 }
 
-/// The position of the first entry of the group, where each is looked at in turn.
+/// The position of the first entry of the group. It looks at each in turn.
 fn first_among(entries: &[Entry], group: Group) -> Option<usize>
     ensures { result ≡ position (tells_group group) entries.now }
 {
     entries.iter().position(|entry| entry.is_in(group))
 }
 
-/// The position of the first entry of the group, by blocks where none is near.
+/// The position of the first entry of the group, by blocks if none is near.
 #[inline(never)]
 fn search(entries: &[Entry], group: Group) -> Option<usize>
     ensures { result ≡ position (tells_group group) entries.now }
@@ -107,7 +107,7 @@ fn search(entries: &[Entry], group: Group) -> Option<usize>
     Some(clear + position)
 }
 
-/// The position of the first entry of the group. `None` exactly where there is none. In a walk over all tasks it is the
+/// The position of the first entry of the group. `None` exactly if there is none. In a walk over all tasks it is the
 /// first of all.
 #[inline(always)]
 pub(crate) fn first_in(entries: &[Entry], group: Group) -> Option<usize>
@@ -132,7 +132,7 @@ pub(crate) fn is_above_all(entries: &[Entry], pid: Pid) -> bool
     }
 }
 
-/// The position of the entry with the pid, where it is shortly before the one that was noted: some that stood before it
+/// The position of the entry with the pid, if it is shortly before the one that was noted: some that stood before it
 /// may have gone since then.
 fn near(entries: &[Entry], noted: usize, pid: Pid) -> Option<usize>
     ensures within { IfSome result (λ position. position < length entries.now) }
@@ -161,7 +161,7 @@ pub(crate) fn position_of(entries: &[Entry], pid: Pid) -> Result<usize, usize>
     entries.binary_search_by_key(&pid, |entry| entry.pid)
 }
 
-/// The same, where it is not at the position that was noted. It is looked for shortly before that first.
+/// The same, if it is not at the position that was noted. It is first looked for shortly before that.
 #[cold]
 #[inline(never)]
 pub(crate) fn position_by(entries: &[Entry], noted: usize, pid: Pid) -> Result<usize, usize>
@@ -174,7 +174,7 @@ pub(crate) fn position_by(entries: &[Entry], noted: usize, pid: Pid) -> Result<u
     }
 }
 
-/// Whether the pid is below those of all entries, which rise by pid. It is where a walk begins.
+/// Whether the pid is below those of all entries, which rise by pid. So it is when a walk begins.
 fn is_below_all(entries: &[Entry], pid: Pid) -> bool
     ensures { IsTrue result → (tasks : List SomeTask) → IsIndexOf entries.now tasks → Rises tasks → IsAbove pid 0 tasks }
 {
@@ -184,8 +184,8 @@ fn is_below_all(entries: &[Entry], pid: Pid) -> bool
     }
 }
 
-/// The position of the first entry with a greater pid, or their number. The entries rise by pid. The one with the pid is
-/// looked for shortly before the position that was noted first.
+/// The position of the first entry with a greater pid, or their number. The entries rise by pid. The one with the pid
+/// is first looked for shortly before the position that was noted.
 #[cold]
 #[inline(never)]
 pub(crate) fn position_above(entries: &[Entry], noted: usize, pid: Pid) -> usize

@@ -12,10 +12,10 @@ use std::alloc::Global;
 /// number of tasks that live at once.
 const PLACES: usize = 8192;
 
-/// How many entries may go before the positions of those behind them are noted anew, a count.
+/// How many entries may go before the positions of those after them are noted anew, a count.
 pub(crate) const MOST_GONE: usize = 16;
 
-/// Behind all entries.
+/// After all entries.
 const BEHIND_ALL: usize = 65536;
 
 /// The positions of entries by their pids, as they were last noted, and the slots of their tasks.
@@ -62,7 +62,7 @@ impl Places {
         self.noted[pid as usize % PLACES] as usize
     }
 
-    /// The entry at the position has gone. The positions of those behind it are noted anew once several have gone.
+    /// The entry at the position has gone. The positions of those after it are noted anew once several have gone.
     #[inline(always)]
     pub fn forget(&mut self, entries: &[Entry], position: usize) {
         self.first_gone = self.first_gone.min(position);
@@ -72,7 +72,7 @@ impl Places {
         }
     }
 
-    /// Notes the positions of all entries behind the first that has gone.
+    /// Notes the positions of all entries after the first that has gone.
     #[inline(never)]
     fn note_anew(&mut self, entries: &[Entry]) {
         self.note(entries, self.first_gone);

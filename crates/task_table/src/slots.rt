@@ -1,5 +1,5 @@
-//! Where the tasks are kept. It is apart, since it alone knows how an empty slot is found. A task keeps its slot as long as
-//! it is in the table.
+//! Where the tasks are kept. It is apart, since it alone knows how an empty slot is found. A task keeps its slot as
+//! long as it is in the table.
 
 ghost use Rattle.std.specs.Prelude.{◌≡◌, ◌+◌, ◌<◌, [], None, Some, IfOk, IsSome, option_copied};
 ghost use Rattle.std.specs.Borrow.{Lends, sem};
@@ -38,7 +38,7 @@ impl Slot {
     }
 }
 
-/// Tasks in slots, and room for so many.
+/// Tasks in slots, and room for a fixed number of them.
 #[derive(Drop)]
 pub(crate) struct Slots {
     all: BoundedList<Slot>,
@@ -71,7 +71,7 @@ impl Slots {
         })
     }
 
-    /// The task in the slot. `None` exactly where it has none.
+    /// The task in the slot. `None` exactly if it has none.
     #[inline(always)]
     pub fn get(&self, key: usize) -> Option<&Task>
         ensures { option_copied result ≡ get self.now key }

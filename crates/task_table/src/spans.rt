@@ -1,4 +1,5 @@
-//! How many tasks groups have, and from which pid on. It is apart since it alone knows that several groups share a span.
+//! How many tasks groups have, and from which pid on. It is apart since it alone knows that several groups share a
+//! span.
 
 ghost use Rattle.std.specs.Prelude.{◌≡◌, ◌≢◌, ℕ, ◌+◌, ◌<◌, ◌^◌, List, length, insert, remove, replicate, slice_set, IfOk};
 ghost use Rattle.task_table.specs.Grouping.{place_of, no_span, span_at, Joins, AreSpans, HasMember, Counts};
@@ -52,7 +53,7 @@ fn joined(span: Span, pid: Pid) -> Span
 }
 
 impl Spans {
-    /// The spans where no group has a task. This call alone takes memory.
+    /// The spans if no group has a task. This call alone takes memory.
     pub fn none(alloc: Global) -> Result<Spans, OutOfMemory>
         ensures { IfOk result (λ spans. spans.all.items ≡ replicate 8192 no_span) }
     {

@@ -82,7 +82,7 @@ impl TaskTable {
         }
     }
 
-    /// The position of the task with the pid, where it is the one that was noted.
+    /// The position of the task with the pid, if it is the one that was noted.
     #[inline(always)]
     fn noted(&self, pid: Pid) -> Option<usize>
         ensures { IfSome result (λ position. IsAt pid position self.now.tasks) }
@@ -96,7 +96,7 @@ impl TaskTable {
         }
     }
 
-    /// The task with the pid. `None` exactly where there is none.
+    /// The task with the pid. `None` exactly if there is none.
     #[inline(always)]
     pub fn find(&self, pid: Pid) -> Option<&Task>
         ensures task { option_copied result ≡ find (has_pid pid) self.now.tasks }
@@ -108,7 +108,7 @@ impl TaskTable {
         }
     }
 
-    /// The task with the pid, where it is in the slot that was noted.
+    /// The task with the pid, if it is in the slot that was noted.
     #[inline(always)]
     fn in_noted_slot(&self, pid: Pid) -> Option<&Task>
         ensures task { IfSome result (λ task. find (has_pid pid) self.now.tasks ≡ Some task.now) }
@@ -122,7 +122,7 @@ impl TaskTable {
         }
     }
 
-    /// The task with the pid, by a search. It is seldom called, since most slots are noted: mostly where there is none.
+    /// The task with the pid, by a search. It is seldom called, since most slots are noted: mostly if there is none.
     #[cold]
     #[inline(never)]
     fn by_position(&self, pid: Pid) -> Option<&Task>
@@ -134,8 +134,8 @@ impl TaskTable {
         }
     }
 
-    /// The task at a position, counted from 0 by rising pid. `None` exactly where the position is not below
-    /// the number of tasks.
+    /// The task at a position, counted from 0 by rising pid. `None` exactly if the position is not below the number of
+    /// tasks.
     #[inline(always)]
     pub fn at(&self, position: usize) -> Option<&Task>
         ensures task { option_copied result ≡ slice_get self.now.tasks position }
@@ -145,7 +145,7 @@ impl TaskTable {
         self.slots.get(entry.key)
     }
 
-    /// What the task with the pid was charged for forced idle, in ns: 0 where there is none.
+    /// What the task with the pid was charged for forced idle, in ns: 0 if there is none.
     pub fn forced(&self, pid: Pid) -> u64
         ensures total { result ≡ total_in self.now pid }
         ensures sound { IsSound self.now }
@@ -166,7 +166,7 @@ impl TaskTable {
         }
     }
 
-    /// The task of the group with the least pid above `after`. `None` exactly where there is none.
+    /// The task of the group with the least pid above `after`. `None` exactly if there is none.
     #[inline(always)]
     pub fn next_in(&self, group: Group, after: Pid) -> Option<&Task>
         ensures next { option_copied result ≡ find (λ task. is_in_group group task && nat_lt after task.spec.pid) self.now.tasks }
@@ -179,7 +179,7 @@ impl TaskTable {
             .next()
     }
 
-    /// The task with the least pid above `after`, and what it was charged for forced idle, in ns. `None` exactly where
+    /// The task with the least pid above `after`, and what it was charged for forced idle, in ns. `None` exactly if
     /// there is none.
     pub fn next_charged(&self, after: Pid) -> Option<(&Task, u64)>
         ensures next { option_map (λ next. next.0.now) result ≡ find (λ task. nat_lt after task.spec.pid) self.now.tasks }
@@ -218,7 +218,7 @@ impl TaskTable {
         }
     }
 
-    /// At most so many tasks has the group, a count, and maybe fewer. It compares none of them.
+    /// How many tasks the group has at most, a count: maybe it has fewer. It compares none of them.
     pub fn most_in(&self, group: Group) -> u16
         ensures most { length (filter (is_in_group group) self.now.tasks) ≤ result }
     {
@@ -259,7 +259,7 @@ impl TaskTable {
         self.members_from(group, self.position_from(span.least), span.count as usize)
     }
 
-    /// The tasks of the group from a position on, by rising pid, which are at most so many.
+    /// The tasks of the group from a position on, by rising pid, which are `most` at most.
     #[inline(always)]
     fn members_from(&self, group: Group, position: usize, most: usize) -> Tasks<'_>
         requires within { position ≤ length self.now.tasks }

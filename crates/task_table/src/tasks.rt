@@ -13,7 +13,7 @@ use std::marker::Model;
 #[derive(Drop)]
 pub struct Tasks<'a> {
     pub(crate) group: Group,
-    /// At most so many are left, a count.
+    /// How many are left at most, a count.
     pub(crate) most: usize,
     pub(crate) entries: &'a [Entry],
     pub(crate) slots: &'a Slots,
@@ -32,7 +32,7 @@ impl<'a> Model for Tasks<'a> {
     ghost invariant = { λ left. IsWalk left.slots.now left.entries.now left.group left.most };
 }
 
-/// At most so many are left behind the next one. `None` where none was left. Those of all tasks are counted too, since to
+/// How many are left after the next one at most. `None` if none was left. Those of all tasks are counted too, since to
 /// tell these from a group takes longer.
 #[inline(always)]
 fn behind_next(most: usize) -> Option<usize>

@@ -55,7 +55,7 @@ fn take_root(place: &mut Tree) -> Option<Box<Node>>
     old.root
 }
 
-/// Puts a node where none is. So nothing is let go, and a caller saves no registers for that.
+/// Puts a node where none is. So nothing is dropped, and a caller saves no registers for that.
 #[inline(always)]
 fn set_root(root: &mut Option<Box<Node>>, node: Box<Node>)
     requires none { root.old ≡ None }
@@ -64,7 +64,7 @@ fn set_root(root: &mut Option<Box<Node>>, node: Box<Node>)
     mem::forget(mem::replace(root, Some(node)));
 }
 
-/// Puts a side of a root in the place of the root, and the root where no node is. So nothing is let go.
+/// Puts a side of a root in the place of the root, and the root where no node is. So nothing is dropped.
 #[inline(always)]
 pub fn hand_out(
     root: &mut Option<Box<Node>>,
@@ -126,7 +126,7 @@ fn raise_right(root: &mut Box<Node>, upper: Box<Node>, upper_lean: Ordering, low
     top.lean = upper_lean;
 }
 
-/// The same where the lower gets the left side of the upper for the right one that it lacks.
+/// The same, but the lower gets the left side of the upper for the right one that it lacks.
 #[inline(always)]
 fn raise_left(root: &mut Box<Node>, upper: Box<Node>, upper_lean: Ordering, lower_lean: Ordering)
     requires lacking { root.old.value.right.entries ≡ [] }
@@ -167,7 +167,7 @@ pub fn lean_left(root: &mut Box<Node>) -> bool
     }
 }
 
-/// The same of a root whose right side is a level higher than the root says.
+/// The same for a root whose right side is a level higher than the root says.
 #[inline(always)]
 pub fn lean_right(root: &mut Box<Node>) -> bool
     requires tilted { TiltsRight root.old.value }
@@ -285,7 +285,7 @@ pub fn uproot(root: &mut Option<Box<Node>>, taken: &mut Option<Box<Node>>) -> bo
     raise_first(node, taken)
 }
 
-/// The same where the root has a right side: it gets the first entry of that, whose node is spare then.
+/// The same if the root has a right side: it gets the first entry of that, whose node is spare then.
 #[inline(never)]
 fn raise_first(root: &mut Box<Node>, taken: &mut Option<Box<Node>>) -> bool
     requires right { root.old.value.right.entries ≢ [] }

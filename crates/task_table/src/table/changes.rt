@@ -1,5 +1,5 @@
-//! What changes the table: a task comes, is charged, is edited and goes. It is a part of the table's module, since nobody
-//! else reads the fields of the table.
+//! What changes the table: a task comes, is charged, is edited and goes. It is a part of the table's module, since
+//! nobody else reads the fields of the table.
 
 ghost use Rattle.std.specs.Prelude.{◌≡◌, ℕ, ◌+◌, ◌-◌, ◌<◌, ◌^◌, ◌==◌, true, false, length, map, filter, find, not, slice_set, List, if◌then◌else◌, IfNone, OnOk, OnErr, MatchOption, IsSome};
 ghost use Rattle.std.specs.Option.{option_map};
@@ -40,7 +40,7 @@ fn asleep(spec: TaskSpec) -> Task
     }
 }
 
-/// The entry tells the groups that the line of its task says, and the spans count it there. They are seldom others than
+/// The entry gets the groups that the line of its task names, and the spans count it there. They are seldom others than
 /// before.
 #[inline(always)]
 fn regroup(entry: &mut Entry, threads: &mut Spans, processes: &mut Spans, spec: &TaskSpec)
@@ -61,7 +61,7 @@ fn regroup(entry: &mut Entry, threads: &mut Spans, processes: &mut Spans, spec: 
     entry.pgid = spec.pgid;
 }
 
-/// The slot of the task with the pid. `None` exactly where there is none. It is handed the list of the entries, since to
+/// The slot of the task with the pid. `None` exactly if there is none. It is handed the list of the entries, since to
 /// read where these stand is a cost of its own, and only a search needs it.
 #[inline(always)]
 fn slot_of(slots: &Slots, entries: &BoundedList<Entry>, places: &Places, pid: Pid) -> Option<usize>
@@ -75,7 +75,8 @@ fn slot_of(slots: &Slots, entries: &BoundedList<Entry>, places: &Places, pid: Pi
     }
 }
 
-/// The slot of the entry with the pid. `None` exactly where there is none. It is seldom called, since most slots are noted.
+/// The slot of the entry with the pid. `None` exactly if there is none. It is seldom called, since most slots are
+/// noted.
 #[cold]
 #[inline(never)]
 fn searched(entries: &[Entry], pid: Pid) -> Option<usize>
@@ -89,8 +90,8 @@ fn searched(entries: &[Entry], pid: Pid) -> Option<usize>
 }
 
 impl TaskTable {
-    /// Puts a task asleep into the table, charged nothing yet. `Twice` comes exactly where a task has its pid, and else
-    /// `Full` exactly where the table has as many tasks as its limit. An `Err` changes nothing.
+    /// Puts a task asleep into the table, charged nothing yet. `Twice` comes exactly if a task has its pid, and else
+    /// `Full` exactly if the table has as many tasks as its limit. An `Err` changes nothing.
     pub fn add(&mut self, spec: TaskSpec) -> Result<(), AddFault>
         ensures answer { result ≡ add_answer self.old spec }
         ensures added { OnOk result (self.new ≡
@@ -146,8 +147,8 @@ impl TaskTable {
         self.entries[position].forced += share;
     }
 
-    /// Puts the task in the position of the one with its pid, which it gives back. It has that one's total. `None` exactly where
-    /// there is none, and then nothing changes. Mostly its groups stay, and then no entry is looked for.
+    /// Puts the task in the position of the one with its pid, which it gives back. It has that one's total. `None`
+    /// exactly if there is none, and then nothing changes. Mostly its groups stay, and then no entry is looked for.
     #[inline(always)]
     pub fn change(&mut self, task: Task) -> Option<Task>
         ensures old { result ≡ find (has_pid task.spec.pid) self.old.tasks }
@@ -166,7 +167,7 @@ impl TaskTable {
         Some(old)
     }
 
-    /// The same where its groups may be others.
+    /// The same if its groups may be others.
     #[cold]
     #[inline(never)]
     fn change_groups(&mut self, task: Task) -> Option<Task>
@@ -225,9 +226,9 @@ impl TaskTable {
         self.edit(pid, Edit::Cookie(cookie));
     }
 
-    /// The tasks with these pids, one after another, are at home on this sibling. The stamp is `first` for the first pid, and one
-    /// more for each later one. The virtual time, in ns, is as far ahead of `to` as it was of `from`, or `to` itself where it was
-    /// behind `from`, modulo 2^128. Nothing else changes.
+    /// The tasks with these pids, one after another, are at home on this sibling. The stamp is `first` for the first
+    /// pid, and one more for each later one. The virtual time, in ns, is as far ahead of `to` as it was of `from`, or
+    /// `to` itself if it was below `from`, modulo 2^128. Nothing else changes.
     #[inline(always)]
     pub fn move_to(&mut self, pids: &[Pid], home: Cpu, from: u128, to: u128, first: u64)
         requires { first + length pids.now < 2 ^ 64 }
@@ -281,8 +282,8 @@ impl TaskTable {
         self.edit(pid, Edit::Asleep);
     }
 
-    /// The task with the pid, if there is one, is queued on this sibling, with this virtual time and this deadline, in ns,
-    /// and with this stamp. Nothing else changes.
+    /// The task with the pid, if there is one, is queued on this sibling, with this virtual time and this deadline, in
+    /// ns, and with this stamp. Nothing else changes.
     #[inline(always)]
     pub fn queue_up(&mut self, pid: Pid, cpu: Cpu, vtime: u128, deadline: u64, stamp: u64)
         ensures queued { self.new ≡ record self.old {
@@ -301,8 +302,8 @@ impl TaskTable {
         );
     }
 
-    /// Takes the task with the pid out, and gives it and what it was charged for forced idle, in ns. `None`
-    /// exactly where there is none, and then nothing changes.
+    /// Takes the task with the pid out, and gives it and what it was charged for forced idle, in ns. `None` exactly if
+    /// there is none, and then nothing changes.
     #[inline(always)]
     pub fn remove(&mut self, pid: Pid) -> Option<(Task, u64)>
         ensures task { result ≡ option_map (λ task. (task, total_in self.old pid)) (find (has_pid pid) self.old.tasks) }
