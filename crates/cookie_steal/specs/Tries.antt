@@ -1,4 +1,4 @@
--- Tries: what a steal try makes of a core and its table.
+-- Tries: what a try to steal makes of a core and its table.
 use Rattle.std.specs.Prelude.{◌≡◌, ℕ, ◌+◌, ◌^◌, ◌<◌, ◌==◌, length, All, if◌then◌else◌}
 use Rattle.cs_types.specs.declared.reply.Reply.{Reply}
 use Rattle.cs_types.specs.declared.reply.Reply.TheVariants as answer
@@ -46,20 +46,20 @@ reply_of (Stole pid from) = answer.Stole pid from
 reply_of (Missed from) = answer.Missed from
 reply_of NoBalance = answer.Nothing
 
--- how often the queues are touched: twice where a task moves
+-- how often the queues are touched: twice if a task moves
 abbrev pub steal_touches : Try → ℕ
 steal_touches (Stole pid from) = 2
 steal_touches (Missed from) = 0
 steal_touches NoBalance = 0
 
--- A sibling whose balance place is 0 tries none. Else it tries to steal.
+-- A sibling whose balance place is 0 does not try to steal. Any other does.
 abbrev pub tried : RoomState → ℕ → Stepped
 tried room cpu =
     if (sibling_of room cpu).place == 0
     then record { reply = answer.Nothing; room = room }
     else try_steal room cpu (stolen room cpu)
 
--- the new room and the answer are those of a try of the sibling, and where it tries none nothing changes
+-- the new room and the answer are those of a try of the sibling, and if it does not try, nothing changes
 pub record TriesToSteal {Q : Type 0} {g : Ghosts Q} (old new : Core Q g × Table) (cpu : ℕ) (made : Try) : Type 0 where
   pub reply : (beside : Beside) → reply_of made ≡ (tried (room_of beside old) cpu).reply
   pub room : (beside : Beside) → room_of beside new ≡ (tried (room_of beside old) cpu).room

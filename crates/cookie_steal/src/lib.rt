@@ -1,5 +1,5 @@
-//! A steal try: how a sibling that idles although a task is queued on it looks for one with the core's
-//! cookie on another.
+//! A try to steal: how a sibling that idles although a task is queued on it looks for one with the
+//! core's cookie on another.
 #![tactic(auto)]
 
 mod search;

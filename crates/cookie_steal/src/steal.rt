@@ -1,4 +1,4 @@
-//! A try, and how what it finds moves.
+//! A try to steal, and how the task that it finds moves.
 
 ghost use Rattle.std.specs.Prelude.{◌≡◌, ℕ, ◌+◌, ◌*◌, ◌^◌, ◌<◌, ◌≤◌, ◌&&◌, ◌==◌, length, not, is_none, All};
 ghost use Rattle.cs_types.specs.Room.{sibling_of};
@@ -16,20 +16,20 @@ use cs_types::{Cpu, Pid, Steps, Task};
 use std::sync::ledger::Ledger;
 use task_table::TaskTable;
 
-/// What came of a steal try.
+/// What came of a try to steal.
 #[derive(Clone, Copy)]
 pub enum Try {
-    /// The sibling stole the task with this pid from that one, where it queues now and is pending. This
-    /// comes where the core has a cookie, the sibling runs idle, and a task with the cookie is queued on
-    /// that one which it may take.
+    /// The sibling stole the task with this pid from that one. The task queues on the thief now, which is pending. This
+    /// comes if the core has a cookie, the thief runs idle, and a task with the cookie that it may take is queued on
+    /// that one.
     Stole { pid: Pid, from: Cpu },
     /// The sibling found nothing to steal on that one, and tries the next one next, or none after the last.
     Missed(Cpu),
-    /// The sibling tries none: its balance place is 0. Nothing changed.
+    /// The sibling does not try: its balance place is 0. Nothing changed.
     NoBalance,
 }
 
-/// The sibling from which one tries to steal next.
+/// The sibling from which this one tries to steal next.
 fn source_of<Q: SiblingQueue>(core: &Core<Q>, cpu: Cpu) -> Cpu
     requires cpu { cpu < length core.now.lanes.items }
     ensures source { (beside : Beside) (table : Table) → result ≡ source_of (room_of beside (core.now, table)) cpu }
@@ -78,7 +78,7 @@ fn steal<Q: SiblingQueue, L: Ledger>(
     core.flag(source, idles);
 }
 
-/// Where the sibling's next try is, where this one finds nothing.
+/// The place of the sibling's next try, if this one finds nothing.
 fn next_place<Q: SiblingQueue>(core: &Core<Q>, cpu: Cpu) -> u32
     requires cpu { cpu < length core.now.lanes.items }
     requires places { All (λ lane. lane.place + 1 < 2 ^ 32) core.now.lanes.items }
@@ -92,7 +92,7 @@ fn next_place<Q: SiblingQueue>(core: &Core<Q>, cpu: Cpu) -> u32
     }
 }
 
-/// The sibling tries to steal a task, where its balance place says that it is to.
+/// The sibling tries to steal a task, if its balance place says that it is to.
 #[inline(always)]
 pub fn try_steal<Q: SiblingQueue, L: Ledger>(
     core: &mut Core<Q>,

@@ -11,8 +11,8 @@ use Rattle.core_lanes.specs.Lanes.{lane_state, Agree, HasLowTimes, RunTheirOwn}
 
 -- ---- what is asked
 
--- The clock may go on by delta ns, at most a second: no task is run by two siblings; and none has used more than the clock, nor has a sibling run for longer
--- since its last schedule, so that no time overflows.
+-- The clock may go on by delta ns, at most a second: no task is run by two siblings; and none has used more time than
+-- the clock shows, nor has a sibling run for longer since its last schedule, so that no time overflows.
 pub record MayAdvance {Q : Type 0} {g : Ghosts Q} (now delta : ℕ) (both : Core Q g × Table) : Type 0 where
   pub agree : Agree both
   pub own : RunTheirOwn both
@@ -22,7 +22,8 @@ pub record MayAdvance {Q : Type 0} {g : Ghosts Q} (now delta : ℕ) (both : Core
   pub ran : All (λ sibling. sibling.ran ≤ now) (map lane_state both.0.lanes.items)
   pub short : delta ≤ 1000000000
 
--- the running tasks may grow by delta ns, at most a second: no task is run by two siblings, and the times are far from overflow
+-- the running tasks may grow by delta ns, at most a second: no task is run by two siblings, and the times are far from
+-- overflow
 pub record MayGrow {Q : Type 0} {g : Ghosts Q} (delta : ℕ) (both : Core Q g × Table) : Type 0 where
   pub agree : Agree both
   pub own : RunTheirOwn both
@@ -30,7 +31,7 @@ pub record MayGrow {Q : Type 0} {g : Ghosts Q} (delta : ℕ) (both : Core Q g ×
   pub vtimes : All (λ task. task.vtime < 2 ^ 100) both.1.tasks
   pub short : delta ≤ 1000000000
 
--- the times of tasks do not overflow where these are delta ns later
+-- the times of tasks do not overflow if these are delta ns later
 pub record CanGrow (delta : ℕ) (tasks : List Task) : Type 0 where
   pub used : All (λ task. task.used + delta < 2 ^ 64) tasks
   pub vtimes : All (λ task. task.vtime + 69 * delta < 2 ^ 128) tasks

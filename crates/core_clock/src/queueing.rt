@@ -41,7 +41,7 @@ pub fn online_home<Q: SiblingQueue>(core: &Core<Q>, cpu: Cpu) -> Cpu
     }
 }
 
-/// The task stays where its home is online, and else moves to another sibling.
+/// The task stays at its home if that is online, and else moves to another sibling.
 #[inline(always)]
 pub fn rehome<Q: SiblingQueue>(core: &Core<Q>, task: &mut Task)
     requires { CanMove core.now task.old }
@@ -80,8 +80,8 @@ fn refresh<Q: SiblingQueue>(core: &Core<Q>, task: &mut Task, now: u64)
     }
 }
 
-/// The task, which sleeps in the table and is as it is there but for its home and its virtual time, is queued at its home,
-/// which may become pending.
+/// The task, which sleeps in the table and is as it is there but for its home and its virtual time, is queued at its
+/// home, which may become pending.
 #[inline(always)]
 pub fn wake_at_home<Q: SiblingQueue, L: Ledger>(
     core: &mut Core<Q>,

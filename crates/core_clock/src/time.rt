@@ -73,7 +73,8 @@ fn grow_tasks<Q: SiblingQueue, L: Ledger>(
     }
 }
 
-/// The least virtual time rises to the smallest one, where it is below that. Mostly it is not, and then nothing is written.
+/// The least virtual time rises to the smallest one, if it is below that. Mostly it is not, and then nothing is
+/// written.
 fn raise(least: &mut u128, smallest: u128)
     ensures { least.new ≡ max least.old smallest }
 {
@@ -131,7 +132,7 @@ fn has_used_slice(task: &Task) -> bool
     }
 }
 
-/// Whether the running task goes behind the others of its priority.
+/// Whether the running task goes after the others of its priority.
 fn rotates<Q: SiblingQueue, L: Ledger>(
     core: &Core<Q>,
     table: &TaskTable,
@@ -193,8 +194,8 @@ fn is_to_yield<Q: SiblingQueue, L: Ledger>(
         && !lane.queue.has_peer(task, table, cpu, steps)
 }
 
-/// Whether the tick asks for a reschedule, where the test says whether the running task goes behind the
-/// others of its priority.
+/// Whether the tick asks for a reschedule. The test says whether the running task goes after the others
+/// of its priority.
 fn asks_at_tick<Q: SiblingQueue, L: Ledger>(
     core: &Core<Q>,
     table: &TaskTable,
@@ -214,8 +215,8 @@ fn asks_at_tick<Q: SiblingQueue, L: Ledger>(
     is_overtaken(core, table, cpu, task, steps) || is_to_yield(core, table, cpu, task, steps)
 }
 
-/// The task with the pid, where it is an RR one that has used its slice, begins a new one, with the next stamp where it
-/// goes behind the others of its priority.
+/// The task with the pid, if it is an RR one that has used its slice, begins a new one, with the next stamp if it goes
+/// after the others of its priority.
 fn begin_slice<Q: SiblingQueue, L: Ledger>(
     core: &mut Core<Q>,
     table: &mut TaskTable,

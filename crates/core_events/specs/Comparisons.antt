@@ -5,9 +5,9 @@ use Rattle.cs_types.specs.declared.event.Event.TheVariants.{Turn, Resched, Block
 use Rattle.core_lanes.specs.declared.queue.SiblingQueue.{Ghosts}
 use Rattle.core_tasks.specs.declared.state.State.{State}
 
--- The most calls of a queue that an event takes, by the number of siblings and of living tasks. A schedule asks each sibling
--- twice, and a steal try passes over the tasks with the core cookie on one sibling. A task that wakes enters its queue, one that
--- sleeps leaves it, and one that changes may leave it and enter it again.
+-- The most calls of a queue that an event takes, by the number of siblings and of living tasks. A schedule asks each
+-- sibling twice, and a try to steal passes over the tasks with the core cookie on one sibling. A task that wakes enters
+-- its queue, one that sleeps leaves it, and one that changes may leave it and enter it again.
 abbrev pub most_calls : ℕ → ℕ → Event → ℕ
 most_calls siblings tasks (Turn _) = max (2 * siblings) (tasks + 4)
 most_calls siblings tasks (Resched _) = 2 * siblings
@@ -24,8 +24,8 @@ most_calls siblings tasks (Online _) = 0
 most_calls siblings tasks (Load _) = 0
 most_calls siblings tasks (Unload _) = 0
 
--- From so many comparisons to so many are no more than the calls of the event make of a queue with each living task and one more,
--- since a child is queued too.
+-- The new count of comparisons is above the old one by no more than the calls of the event make on a queue with each
+-- living task and one more, since a child is queued too.
 abbrev pub ComparesForEvent : {Q G : Type 0} {g : Ghosts Q} → State Q G g → Event → ℕ → ℕ → Type 0
 ComparesForEvent {g = g} state event old new =
     new ≤ old + most_calls (length state.core.lanes.items) (length state.tasks.tasks) event * g.most_compared (length state.tasks.tasks + 1)

@@ -28,7 +28,7 @@ machine_of room =
       spare = room.entries.room - length room.entries.items;
     }
 
--- how many entries a machine may make: the steps of the scenario, and those of the end
+-- how many entries a machine may make: the steps of the scenario, and those of the final drain
 abbrev pub most_entries : Scenario → ℕ
 most_entries scenario = length scenario.steps + scenario.siblings * scenario.siblings
 
@@ -40,7 +40,7 @@ pub record IsFold {Q G : Type 0} {g : Ghosts Q} (room : Inside Q G g) : Type 0 w
   pub fold : room_with (fold_of (opening_of room) room.entries.items).intervals room.state ≡ fold_of (opening_of room) room.entries.items
   pub numbers : state_numbers room.state ≡ numbers_at (opening_of room) (moment_of (opening_of room) room.entries.items)
   pub sound : IsSound room.state
-  -- the number of siblings is the scenario's, and that of the lanes
+  -- the number of siblings is the scenario's, and that of the core's siblings
   pub count : room.siblings ≡ room.scenario.value.siblings
   pub siblings : length room.state.core.lanes.items ≡ room.scenario.value.siblings
   -- no advance is above one second

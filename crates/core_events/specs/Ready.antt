@@ -11,16 +11,16 @@ use Rattle.core_lanes.specs.Lanes.{RunTheirOwn}
 use Rattle.core_tasks.specs.declared.state.State.{State}
 use Rattle.core_tasks.specs.State.{both, room_with, state_numbers, IsSound}
 
--- the times of the state keep their bounds, and its clock is so low that no time overflows, after one more advance too,
--- in a history of fewer than 2^17 entries
+-- the times of the state keep their bounds, and its clock is so low that no time overflows, even after one more
+-- advance, in a history of fewer than 2^17 entries
 pub record IsOnTime {Q G : Type 0} {g : Ghosts Q} (state : State Q G g) : Type 0 where
   pub entries : ℕ
   pub few : entries < 2 ^ 17
   pub timely : (intervals : List Interval) → IsTimely entries (room_with intervals state)
   pub clock : state.clock + 1000000000 < 2 ^ 56
 
--- what an event may use up: touches, stamps, a cookie's serial, a pid, a place among the ended, a balance place, and of each
--- guard's count
+-- what an event may use up: touches, stamps, a cookie's serial, a pid, a place among the ended, a balance place, and of
+-- each guard's count
 pub record HasSpares {Q G : Type 0} {g : Ghosts Q} (state : State Q G g) : Type 0 where
   pub touches : state.core.task_number + 2 * length state.tasks.tasks + 2 < 2 ^ 64
   pub stamps : state.core.next_stamp + length state.tasks.tasks + 1 < 2 ^ 64

@@ -1,4 +1,4 @@
--- Tried: what a sibling answers where it tries to steal.
+-- Tried: what a sibling answers when it tries to steal.
 use Rattle.std.specs.Prelude.{◌≡◌, ℕ}
 use Rattle.cs_types.specs.declared.reply.Reply.{Reply}
 use Rattle.task_table.specs.Table.{Table}

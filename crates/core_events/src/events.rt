@@ -41,7 +41,7 @@ fn with_policy(policy: Policy, task: Task) -> Task
     }
 }
 
-/// What is answered to a steal try.
+/// What is answered to a try to steal.
 fn steal_reply(made: Try) -> Reply
     ensures { result ≡ steal_reply made }
 {
@@ -52,7 +52,7 @@ fn steal_reply(made: Try) -> Reply
     }
 }
 
-/// What is answered where a sibling is to leave or to come back.
+/// What is answered when a sibling is to leave or to come back.
 fn hotplug_reply(made: Hotplug) -> Reply
     ensures { result ≡ hotplug_reply made }
 {
@@ -63,8 +63,8 @@ fn hotplug_reply(made: Hotplug) -> Reply
     }
 }
 
-/// The child is at home where its caller is, or on another sibling where that is offline, and has the least
-/// virtual time of its queue, whatever its class.
+/// The child is at home where its caller is, or on another sibling if that is offline, and has the least virtual time
+/// of its queue, whatever its class.
 fn child_at_home<Q: SiblingQueue>(core: &Core<Q>, child: Task) -> Task
     requires { child.home < length core.now.lanes.items }
     ensures child_at_home { (beside : Beside) (table : Table) → result ≡ child_at_home (room_of beside (core.now, table)) child }
@@ -78,7 +78,7 @@ fn child_at_home<Q: SiblingQueue>(core: &Core<Q>, child: Task) -> Task
     }
 }
 
-/// A queued task leaves its queue and enters it again, and its sibling becomes pending where it runs.
+/// A queued task leaves its queue and enters it again, and its sibling becomes pending if it runs.
 fn requeue<Q: SiblingQueue, L: Ledger>(
     core: &mut Core<Q>,
     table: &mut TaskTable,
@@ -129,7 +129,7 @@ fn steal<Q: SiblingQueue, L: Ledger>(
     steal_reply(try_steal(core, table, cpu, steps))
 }
 
-/// A pending reschedule is taken. Else the sibling tries to steal, where it is to.
+/// A pending reschedule is taken. Else the sibling tries to steal, if it is to.
 #[inline(always)]
 fn turn<Q: SiblingQueue, G: Guard, L: Ledger>(
     state: &mut State<Q, G>,
@@ -351,8 +351,8 @@ fn prctl<Q: SiblingQueue, G: Guard, L: Ledger>(
     state.prctl(smt_off, pid, ask, steps)
 }
 
-/// Makes the step of an event, and answers what the rules answer. It compares no more keys than the event's calls of a queue
-/// may.
+/// Makes the step of an event, and answers what the rules answer. It compares no more keys than the event's calls of a
+/// queue may.
 #[inline(always)]
 pub fn apply<Q: SiblingQueue, G: Guard, L: Ledger>(
     state: &mut State<Q, G>,

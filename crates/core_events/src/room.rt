@@ -51,7 +51,7 @@ impl<Q: SiblingQueue, G: Guard> Model for CoreRoom<Q, G> {
     ghost invariant = { IsFold };
 }
 
-/// How many entries a machine may make: the steps of the scenario, and the entries of the end.
+/// How many entries a machine may make: the steps of the scenario, and the entries of the final drain.
 fn most_entries(scenario: &Scenario) -> usize
     requires { IsPlayable scenario.now }
     ensures { result ≡ length scenario.now.steps + scenario.now.siblings * scenario.now.siblings }
@@ -95,10 +95,9 @@ fn counted<Q: SiblingQueue, G: Guard, L: Ledger>(
 impl<Q: SiblingQueue, G: Guard> CoreRoom<Q, G> {
     ghost use Rattle.cs_types.specs.History.{history_of};
 
-    /// The room of a scenario before its first step. The guards were taught what its lines teach, and none
-    /// was loaded or asked yet. It takes memory for as many entries as the
-    /// scenario has steps, and for those of the end, and no later call takes any. The core has 1 to 16
-    /// siblings.
+    /// The room of a scenario before its first step. The guards were taught what its lines teach, and none was loaded
+    /// or asked yet. It takes memory for as many entries as the scenario has steps, and for those of the final drain,
+    /// and no later call takes any. The core has 1 to 16 siblings.
     pub fn start(
         alloc: Global,
         scenario: &Scenario,

@@ -5,11 +5,11 @@ use Rattle.cs_types.specs.Room.{RoomState, has_pid, is_online}
 use Rattle.cs_types.specs.Accounting.{charged_on}
 use Rattle.task_table.specs.Table.{Table, total_in, IsSound}
 
--- the task that is charged for a sibling, none where it is offline
+-- the task that is charged for a sibling, none if it is offline
 abbrev pub charged_at : RoomState → ℕ → Option ℕ
 charged_at room cpu = if is_online room cpu then charged_on room cpu else None
 
--- each of these tasks is there, and no total overflows where it is this share more
+-- each of these tasks is there, and no total overflows if it is this share more
 pub record MayOwe (charged : List ℕ) (share : ℕ) (table : Table) : Type 0 where
   pub there : All (λ pid. IsSome (find (has_pid pid) table.tasks)) charged
   pub low : (pid : ℕ) → total_in table pid + share < 2 ^ 64

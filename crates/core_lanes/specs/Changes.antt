@@ -12,8 +12,8 @@ use Rattle.core_lanes.specs.Numbers.{numbers_of, numbers_in, booked, touched}
 
 -- ---- what stays
 
--- what every change of this crate and of those above it keeps: how many siblings there are, how many tasks may live, and each
--- task's pid and cookie
+-- what every change of this crate and of those above it keeps: how many siblings there are, how many tasks may live,
+-- and each task's pid and cookie
 pub record Kept : Type 0 where
   pub siblings : ℕ
   pub limit : ℕ
@@ -31,7 +31,7 @@ kept_of both =
       identities = map identity_of both.1.tasks;
     }
 
--- that stays, and where they agreed they agree still
+-- that stays, and if they agreed, they still agree
 pub record Stays {Q : Type 0} {g : Ghosts Q} (old new : Core Q g × Table) : Type 0 where
   pub agree : Agree old → Agree new
   pub kept : kept_of new ≡ kept_of old
@@ -54,13 +54,13 @@ pub record Changes {Q : Type 0} {g : Ghosts Q} (old new : Core Q g × Table) (ch
   pub numbers : numbers_of new ≡ numbers_of old
   pub stays : Stays old new
 
--- and where the queues were touched this number of times
+-- the same, and the queues were touched this number of times
 pub record Touches {Q : Type 0} {g : Ghosts Q} (count : ℕ) (old new : Core Q g × Table) (change : RoomState → RoomState) : Type 0 where
   pub room : Becomes old new change
   pub numbers : numbers_of new ≡ touched count (numbers_of old)
   pub stays : Stays old new
 
--- the same of a change that charges the open interval, at this moment
+-- the same for a change that charges the open interval, at this moment
 abbrev pub BecomesCharged : {Q : Type 0} {g : Ghosts Q} → ℕ → Core Q g × Table → Core Q g × Table → (RoomState → RoomState) → Type 0
 BecomesCharged now old new change =
     (beside : Beside) → let room = change (room_of (at now beside) old) in room_of (beside_after (at now beside) room) new ≡ room
@@ -78,6 +78,6 @@ pub record MovesBy {Q : Type 0} {g : Ghosts Q} (Held : Type 0) (pid to : ℕ) (o
   pub kept : kept_of new ≡ kept_of old
   pub agree : AgreeBy Held new
 
--- into the queue there, where that of the sibling that it leaves is empty
+-- into the queue there, if that of the sibling that it leaves is empty
 abbrev pub Enters : {Q : Type 0} {g : Ghosts Q} → ℕ → ℕ → ℕ → Core Q g × Table → Core Q g × Table → Type 0
 Enters pid from to old new = MovesBy (AreHeldAway from new) pid to old new

@@ -9,7 +9,7 @@ use Rattle.core_lanes.specs.Lanes.{Beside, at, room_of, bare, queues_of, Agree}
 use Rattle.core_lanes.specs.Numbers.{numbers_in, booked, touched}
 use Rattle.core_lanes.specs.Changes.{Stays, BecomesCharged, IsBooked}
 
--- the open interval did not begin later than now, and no number of the books overflows where it is charged
+-- the open interval did not begin later than now, and no number of the books overflows if it is charged
 pub record IsPaid {Q : Type 0} {g : Ghosts Q} (now : ℕ) (both : Core Q g × Table) : Type 0 where
   pub clock : now < 2 ^ 56
   pub started : unwrap_or both.0.account.started now ≤ now
@@ -28,7 +28,7 @@ pub record Charges {Q : Type 0} {g : Ghosts Q} (now : ℕ) (old new : Core Q g �
       numbers_in beside new ≡ booked (change (room_of (at now beside) old)) (numbers_in beside old)
   pub stays : Stays old new
 
--- the same where it then touches the queues this number of times
+-- the same, and it then touches the queues this number of times
 pub record ChargesAndTouches {Q : Type 0} {g : Ghosts Q} (now count : ℕ) (old new : Core Q g × Table) (change : RoomState → RoomState) : Type 0 where
   pub room : BecomesCharged now old new change
   pub numbers : (beside : Beside) → IsBooked (at now beside) old →

@@ -1,4 +1,5 @@
--- Exchanges: two siblings of a core change their queues, where all tasks of the one moved to the other, which had none.
+-- Exchanges: two siblings of a core exchange their queues, when all tasks of the one moved to the other, which had
+-- none.
 use Rattle.std.specs.Prelude.{◌≡◌, ◌≢◌, ℕ, ◌+◌, ◌*◌, ◌^◌, ◌<◌, List, length, map, Some, slice_get, slice_index_or}
 use Rattle.cs_types.specs.Room.{absent}
 use Rattle.task_table.specs.Table.{Table}
@@ -14,7 +15,8 @@ use Rattle.core_lanes.specs.declared.lanes.Core.{Core}
 abbrev pub AgreeApart : {Q : Type 0} {g : Ghosts Q} → Core Q g × Table → Type 0
 AgreeApart both = AgreeBy (Unit {0}) both
 
--- so many tasks may move from the one sibling to the other, one after another: the stamps and the touches do not overflow
+-- this number of tasks may move from the one sibling to the other, one after another: the stamps and the touches do not
+-- overflow
 pub record MayPlace {Q : Type 0} {g : Ghosts Q} (count from to : ℕ) (core : Core Q g) : Type 0 where
   pub cpu : from < length core.lanes.items
   pub other : to < length core.lanes.items
@@ -25,11 +27,11 @@ pub record MayPlace {Q : Type 0} {g : Ghosts Q} (count from to : ℕ) (core : Co
 abbrev pub least_of : {Q : Type 0} {g : Ghosts Q} → Core Q g → ℕ → ℕ
 least_of core cpu = (slice_index_or (map lane_state core.lanes.items) cpu absent).least
 
--- a core once so many tasks moved, each with the next stamp and two touches
+-- a core once this number of tasks moved, each with the next stamp and two touches
 abbrev pub counted : ℕ → BareCore → BareCore
 counted count core = record core { next_stamp = core.next_stamp + count; task_number = core.task_number + 2 * count }
 
--- so many of these tasks moved from the one sibling to the other, one after another, whatever the queues hold
+-- this number of these tasks moved from the one sibling to the other, one after another, whatever the queues hold
 pub record PlacesFirst {Q : Type 0} {g : Ghosts Q} (count : ℕ) (pids : List ℕ) (from to : ℕ) (old new : Core Q g × Table) : Type 0 where
   pub core : bare new.0 ≡ counted count (bare old.0)
   pub lanes : new.0.lanes ≡ old.0.lanes
@@ -37,7 +39,7 @@ pub record PlacesFirst {Q : Type 0} {g : Ghosts Q} (count : ℕ) (pids : List �
     tasks = with_first_moved count pids to (least_of old.0 from) (least_of old.0 to) old.0.next_stamp old.1.tasks;
   }
 
--- two siblings changed their queues, and nothing else did
+-- two siblings exchanged their queues, and nothing else changed
 pub record Exchange {Q : Type 0} (one other : ℕ) (old new : List (Lane Q)) : Type 0 where
   pub states : map lane_state new ≡ map lane_state old
   pub numbers : map (λ lane. lane.number) new ≡ map (λ lane. lane.number) old
@@ -45,7 +47,8 @@ pub record Exchange {Q : Type 0} (one other : ℕ) (old new : List (Lane Q)) : T
   pub second : slice_get (map (λ lane. lane.queue) new) other ≡ slice_get (map (λ lane. lane.queue) old) one
   pub rest : (cpu : ℕ) → cpu ≢ one → cpu ≢ other → slice_get (map (λ lane. lane.queue) new) cpu ≡ slice_get (map (λ lane. lane.queue) old) cpu
 
--- All tasks of the one sibling moved to the other, whose queue has none of its own. Each other queue holds what it is to hold.
+-- All tasks of the one sibling moved to the other, whose queue has none of its own. Each other queue holds what it is
+-- to hold.
 pub record MayExchange {Q : Type 0} {g : Ghosts Q} (from to : ℕ) (both : Core Q g × Table) : Type 0 where
   pub cpu : from < length both.0.lanes.items
   pub other : to < length both.0.lanes.items

@@ -163,13 +163,13 @@ AreHeldBut pid both = AreHeldAs (λ cpu. others pid (queued_at both.1.tasks cpu)
 abbrev pub AreHeldAway : {Q : Type 0} {g : Ghosts Q} → ℕ → Core Q g × Table → Type 0
 AreHeldAway leaving both = AreHeldAs (λ cpu. if cpu == leaving then [] else queued_at both.1.tasks cpu) both
 
--- the core before the first step, with a queue for each sibling that has no task and can take so many
+-- the core before the first step, with a queue for each sibling that has no task and can take this number
 pub record IsFirstCore {Q : Type 0} {g : Ghosts Q} (siblings tasks : ℕ) (core : Core Q g) : Type 0 where
   pub bare : bare core ≡ bare_start siblings
   pub held : (cpu : ℕ) (queue : Q) → slice_get (queues_of core) cpu ≡ Some queue → g.holds queue tasks []
 
--- A core and a table agree: at most 256 tasks live; each task fits the siblings, and where it is queued has a stamp of its own;
--- and the queues hold what they are to hold.
+-- A core and a table agree: at most 256 tasks live; each task fits the siblings, and, if it is queued, has a stamp of
+-- its own; and the queues hold what they are to hold.
 pub record AgreeBy {Q : Type 0} {g : Ghosts Q} (Held : Type 0) (both : Core Q g × Table) : Type 0 where
   pub table : IsTable both.1
   pub few_tasks : both.1.limit ≤ 256
@@ -213,14 +213,15 @@ pub record MayStamp (next : ℕ) (tasks : List Task) (task : Task) : Type 0 wher
   pub below : task.stamp < next
   pub own : HasOwnStamp tasks task
 
--- a core and a table agree, and the table has a task with this one's pid, in whose place this one fits but for its stamp
+-- a core and a table agree, and the table has a task with this one's pid, in whose place this one fits but for its
+-- stamp
 pub record FitsApart {Q : Type 0} {g : Ghosts Q} (both : Core Q g × Table) (task : Task) : Type 0 where
   pub agree : Agree both
   pub old : Task
   pub there : find (has_pid task.spec.pid) both.1.tasks ≡ Some old
   pub fits : IsFit (length both.0.lanes.items) task
 
--- it fits there with its stamp too, where it is queued
+-- it fits there with its stamp too, if it is queued
 pub record FitsIn {Q : Type 0} {g : Ghosts Q} (both : Core Q g × Table) (task : Task) : Type 0 where
   pub apart : FitsApart both task
   pub stamp : IsTrue task.queued → MayStamp both.0.next_stamp both.1.tasks task
@@ -230,7 +231,7 @@ pub record KnowsApart {Q : Type 0} {g : Ghosts Q} (both : Core Q g × Table) (ta
   pub apart : FitsApart both task
   pub cookie : task.cookie ≡ apart.old.cookie
 
--- the same with its stamp, where it is queued
+-- the same with its stamp, if it is queued
 pub record Knows {Q : Type 0} {g : Ghosts Q} (both : Core Q g × Table) (task : Task) : Type 0 where
   pub known : KnowsApart both task
   pub stamp : IsTrue task.queued → MayStamp both.0.next_stamp both.1.tasks task
@@ -253,13 +254,14 @@ pub record MaySleep {Q : Type 0} {g : Ghosts Q} (pid : ℕ) (both : Core Q g × 
   pub there : find (has_pid pid) both.1.tasks ≡ Some task
   pub touches : both.0.task_number + 1 < 2 ^ 64
 
--- a task may be queued that sleeps in the table, and is another there but for its home and its times
+-- a task may be queued that sleeps in the table, and differs from what it is there in its home, its times and whether
+-- it is queued alone
 pub record MayWake {Q : Type 0} {g : Ghosts Q} (both : Core Q g × Table) (task : Task) : Type 0 where
   pub may : MayEnqueue both task
   pub asleep : may.knows.apart.old.queued ≡ false
   pub is : task ≡ record may.knows.apart.old { home = task.home; queued = task.queued; vtime = task.vtime; deadline = task.deadline }
 
--- the tasks queued on a sibling may be told, in a list that has as many places
+-- the tasks queued on a sibling may be listed, in a list that has as many places
 pub record MayTell {Q : Type 0} {g : Ghosts Q} (cpu : ℕ) (both : Core Q g × Table) (movers : List ℕ) : Type 0 where
   pub agree : AgreesAt cpu both
   pub each : length movers ≡ length (queued_among both.1.tasks cpu)
@@ -270,8 +272,8 @@ pub record CanMove {Q : Type 0} {g : Ghosts Q} (core : Core Q g) (task : Task) :
   pub vtime : task.vtime < 2 ^ 100
   pub leasts : All (λ sibling. sibling.least < 2 ^ 100) (map lane_state core.lanes.items)
 
--- The task with the pid is queued on the one sibling, and may move to the other: its virtual time and the least ones are far from
--- overflow, and the next stamp and two touches do not overflow.
+-- The task with the pid is queued on the one sibling, and may move to the other: its virtual time and the least ones
+-- are far from overflow, and the next stamp and two touches do not overflow.
 pub record MayMoveBy {Q : Type 0} {g : Ghosts Q} (Held : Type 0) (pid from to : ℕ) (both : Core Q g × Table) : Type 0 where
   pub task : Task
   pub there : find (has_pid pid) both.1.tasks ≡ Some task
@@ -285,13 +287,13 @@ pub record MayMoveBy {Q : Type 0} {g : Ghosts Q} (Held : Type 0) (pid from to : 
   pub stamp : both.0.next_stamp + 1 < 2 ^ 64
   pub touches : both.0.task_number + 2 < 2 ^ 64
 
--- the same where its sibling's queue is empty already
+-- the same if its sibling's queue is empty already
 abbrev pub MayEnter : {Q : Type 0} {g : Ghosts Q} → ℕ → ℕ → ℕ → Core Q g × Table → Type 0
 MayEnter pid from to both = MayMoveBy (AreHeldAway from both) pid from to both
 
 -- ---- how long the queues are
 
--- on no sibling are more tasks queued than so many
+-- on no sibling are more tasks queued than this number
 abbrev pub AreNoLonger : {Q : Type 0} {g : Ghosts Q} → ℕ → Core Q g × Table → Type 0
 AreNoLonger longest both = (cpu : ℕ) → cpu < length both.0.lanes.items → length (queued_among both.1.tasks cpu) ≤ longest
 

@@ -5,8 +5,8 @@ use Rattle.cs_types.specs.Order.{fair_class}
 use Rattle.task_table.specs.Table.{Table, IsSound as IsTable}
 use Rattle.core_lanes.specs.Queued.{queued_at}
 
--- A task keeps what it was ahead of the one least virtual time over the other. The tasks get the stamps from the next one on in
--- the order of those that they had.
+-- A task keeps what it was ahead of the one least virtual time over the other. The tasks get the stamps from the next
+-- one on in the order of those that they had.
 abbrev pub again : ℕ → ℕ → ℕ → List Queued → Queued → Queued
 again from to next was task =
     record task {
@@ -14,7 +14,7 @@ again from to next was task =
       stamp = next + count_by (λ other. nat_lt other.stamp task.stamp) was;
     }
 
--- These are the tasks of a queue once all of them moved so. No fair one of them was behind the least virtual time.
+-- These are the tasks of a queue once all of them moved so. No fair one of them was below the least virtual time.
 pub record HaveMoved (Held : List Queued → Type 0) (now : List Queued) : Type 0 where
   pub was : List Queued
   pub from : ℕ

@@ -21,7 +21,7 @@ queued_among tasks cpu = filter (λ task. task.queued && (task.home == cpu)) tas
 abbrev pub queued_at : List Task → ℕ → List Queued
 queued_at tasks cpu = map queued_of (queued_among tasks cpu)
 
--- a task as it is told where all leave: its stamp, and its pid
+-- a task as it is handed over when all leave: its stamp, and its pid
 abbrev pub mover_of : Task → ℕ × ℕ
 mover_of task = (task.stamp, task.spec.pid)
 
@@ -58,8 +58,8 @@ pub record AreStamped (next : ℕ) (tasks : List Task) : Type 0 where
   pub below : All (λ task. IsTrue task.queued → task.stamp < next) tasks
   pub distinct : (task : Task) → IsOf tasks task → IsTrue task.queued → HasOwnStamp tasks task
 
--- A queue of which this says what it holds and can take may be asked about a task: the table has it queued on the sibling, and
--- the queue holds the tasks that the table has queued there.
+-- A queue of which this says what it holds and can take may be asked about a task: the table has it queued on the
+-- sibling, and the queue holds the tasks that the table has queued there.
 pub record IsQueuedOn (Holds : ℕ → List Queued → Type 0) (cpu : ℕ) (all : Table) (task : Task) : Type 0 where
   pub table : IsTable all
   pub there : IsOf all.tasks task
@@ -67,12 +67,12 @@ pub record IsQueuedOn (Holds : ℕ → List Queued → Type 0) (cpu : ℕ) (all 
   pub home : task.home ≡ cpu
   pub holds : Holds all.limit (queued_at all.tasks cpu)
 
--- the same of a fair task
+-- the same for a fair task
 pub record IsFairOn (Holds : ℕ → List Queued → Type 0) (cpu : ℕ) (all : Table) (task : Task) : Type 0 where
   pub there : IsQueuedOn Holds cpu all task
   pub fair : IsTrue (is_fair task)
 
--- A task may enter a queue: the same where the queue holds the others, and no other queued task has its stamp.
+-- A task may enter a queue: the same, but the queue holds the others, and no other queued task has its stamp.
 pub record MayBePut (Holds : ℕ → List Queued → Type 0) (cpu : ℕ) (all : Table) (task : Task) : Type 0 where
   pub table : IsTable all
   pub there : IsOf all.tasks task
@@ -107,7 +107,7 @@ pub record MayCompare (Holds : ℕ → List Queued → Type 0) (cpu : ℕ) (all 
 abbrev pub with_cookie : ℕ → List Task → List Task
 with_cookie cookie tasks = filter (λ task. task.cookie == cookie) tasks
 
--- those behind a task
+-- those after a task
 abbrev pub behind : Task → List Task → List Task
 behind task tasks = filter (λ other. goes_before task other) tasks
 
@@ -123,7 +123,8 @@ is_peer_of task other =
 abbrev pub has_peer : Task → List Task → Bool
 has_peer task tasks = list_any (λ other. not (has_pid task.spec.pid other) && is_peer_of task other) tasks
 
--- whether a queue has one task as it has another with its pid: both are queued at one home, and stand at one place there
+-- whether a queue has one task as it has another with its pid: both are queued at one home, and stand at one place
+-- there
 abbrev pub is_alike : Task → Task → Bool
 is_alike task other =
     task.queued && other.queued && (task.home == other.home) && (task.stamp == other.stamp) && (task.cookie == other.cookie)

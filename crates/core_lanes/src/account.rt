@@ -18,8 +18,8 @@ use task_table::TaskTable;
 /// The tasks for which siblings are charged.
 type Charged = ArrayVec<Pid, MOST_SIBLINGS>;
 
-/// The task that is charged for a sibling: what waits for it, or what it runs where nothing waits, if it is
-/// online and that has a cookie.
+/// The task that is charged for a sibling: what waits for it, or, if nothing waits, what it runs; if it is online and
+/// that has a cookie.
 fn charged_on<Q: SiblingQueue>(core: &Core<Q>, table: &TaskTable, cpu: Cpu) -> Option<Pid>
     requires { cpu < length core.now.lanes.items }
     ensures task { (beside : Beside) → result ≡ charged_at (room_of beside (core.now, table.now)) cpu }

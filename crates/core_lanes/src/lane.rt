@@ -11,14 +11,14 @@ use cs_types::{CpuView, Pid};
 pub struct Lane<Q: Drop> {
     /// Whether it is online (`cpu_online_mask`).
     pub online: bool,
-    /// The running task, none where the sibling runs idle (`rq->curr`).
+    /// The running task, none if the sibling runs idle (`rq->curr`).
     pub run: Option<Pid>,
     /// Whether it has a pending reschedule (`TIF_NEED_RESCHED` of `rq->curr`).
     pub pending: bool,
     /// What waits for it: nothing, idle or a task (`rq->core_pick`).
     pub waiting: Option<Option<Pid>>,
     /// Its balance place: how many siblings on from it the next one is from which it tries to steal, a
-    /// count. 0 where it tries none (`core_balance_head`, and the loop of `steal_cookie_task`).
+    /// count. 0 if it does not try (`core_balance_head`, and the loop of `steal_cookie_task`).
     pub place: u32,
     /// The least virtual time, as it was last kept for comparisons with other siblings, in ns
     /// (`cfs_rq->min_vruntime_fi`).

@@ -88,7 +88,7 @@ impl<Q: SiblingQueue> Core<Q> {
         self.lanes[cpu as usize].online
     }
 
-    /// The task that a sibling runs, where it stands in the table. None where the sibling runs idle.
+    /// The task that a sibling runs, as it stands in the table. None if the sibling runs idle.
     #[inline(always)]
     pub fn runner<'table>(&self, table: &'table TaskTable, cpu: Cpu) -> Option<&'table Task>
         requires { cpu < length self.now.lanes.items }
@@ -144,7 +144,7 @@ impl<Q: SiblingQueue> Core<Q> {
         self.lanes[cpu as usize].run = None;
     }
 
-    /// The sibling is pending where it was, and where the test says so (`resched_curr`).
+    /// The sibling is pending if it was before, or if the test says so (`resched_curr`).
     pub fn flag(&mut self, cpu: Cpu, test: bool)
         requires { cpu < length self.old.lanes.items }
         ensures { (table : Table) → Changes (self.old, table) (self.new, table) (λ room. flag room cpu test) }
@@ -174,7 +174,7 @@ impl<Q: SiblingQueue> Core<Q> {
         }
     }
 
-    /// The queue that the task belongs into, if one, has it.
+    /// The queue that the task belongs in, if one, has it.
     fn put<L: Ledger>(&mut self, table: &TaskTable, task: &Task, steps: &mut Steps<L>)
         requires home { IsAtHome (AreHeldBut task.now.spec.pid (self.old, table.now)) (self.old, table.now) task.now }
         requires stamp { IsTrue task.now.queued → HasOwnStamp table.now.tasks task.now }
@@ -246,8 +246,8 @@ impl<Q: SiblingQueue> Core<Q> {
         table.give_cookie(task.spec.pid, cookie);
     }
 
-    /// The queue that the fair task stands in, if one, has it as it is with this virtual time, in ns (`update_curr`). The
-    /// table is to follow.
+    /// The queue that the fair task stands in, if one, has it as it is with this virtual time, in ns (`update_curr`).
+    /// The table is to follow.
     #[inline(always)]
     pub fn set_vtime_in_queue<L: Ledger>(
         &mut self,
@@ -268,8 +268,8 @@ impl<Q: SiblingQueue> Core<Q> {
         }
     }
 
-    /// The queue of a sibling, whose tasks are about to leave, is empty. The list, which has as many places, tells
-    /// them by rising stamp.
+    /// The queue of a sibling, whose tasks are about to leave, is empty. The list, which has as many places, gets their
+    /// pids by rising stamp.
     pub fn empty_queue(&mut self, table: &TaskTable, leaving: Cpu, movers: &mut [Pid])
         requires { MayTell leaving (self.old, table.now) movers.old }
         ensures away { ChangesQueues self.old self.new (AgreeAway leaving (self.new, table.now)) }
@@ -279,8 +279,8 @@ impl<Q: SiblingQueue> Core<Q> {
         self.lanes[leaving as usize].queue.clear(table, leaving);
     }
 
-    /// The task with the pid leaves the one sibling, whose queue is empty already, and enters the queue of the other with the
-    /// next stamp. It keeps what it is ahead of the least virtual time of its queue.
+    /// The task with the pid leaves the one sibling, whose queue is empty already, and enters the queue of the other
+    /// with the next stamp. It keeps what it is ahead of the least virtual time of its queue.
     #[inline(always)]
     pub fn enter<L: Ledger>(
         &mut self,
@@ -312,8 +312,8 @@ impl<Q: SiblingQueue> Core<Q> {
         self.touch();
     }
 
-    /// The task with the pid is asleep (`dequeue_task`). It is changed where it stands in the table, since to copy a task
-    /// takes longer.
+    /// The task with the pid is asleep (`dequeue_task`). It is changed where it stands in the table, since to copy a
+    /// task takes longer.
     #[inline(always)]
     pub fn put_to_sleep<L: Ledger>(&mut self, table: &mut TaskTable, pid: Pid, steps: &mut Steps<L>)
         requires { MaySleep pid (self.old, table.old) }
@@ -327,8 +327,8 @@ impl<Q: SiblingQueue> Core<Q> {
         self.touch();
     }
 
-    /// The task, which sleeps in the table, is queued as it is here, with the next stamp (`enqueue_task`). What is other here,
-    /// its home and its times, is changed where it stands in the table.
+    /// The task, which sleeps in the table, is queued as it is here, with the next stamp (`enqueue_task`). What differs
+    /// here, its home and its times, is changed where it stands in the table.
     #[inline(always)]
     pub fn wake<L: Ledger>(&mut self, table: &mut TaskTable, task: &Task, steps: &mut Steps<L>)
         requires { MayWake (self.old, table.old) task.now }

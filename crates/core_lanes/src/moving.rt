@@ -13,7 +13,7 @@ use std::mem;
 use std::sync::ledger::Ledger;
 use task_table::TaskTable;
 
-/// Two siblings change their queues.
+/// Two siblings exchange their queues.
 fn swap_queues<Q: Drop>(lanes: &mut [Lane<Q>], one: usize, other: usize)
     requires two { one ≢ other }
     requires within { (one < length lanes.old) × (other < length lanes.old) }
@@ -33,7 +33,7 @@ impl<Q: SiblingQueue> Core<Q> {
     ghost use Rattle.core_lanes.specs.Lanes.{MayTell, AreHeld, ChangesQueues};
     ghost use Rattle.core_lanes.specs.Comparisons.{ComparesFor};
 
-    /// Tells the tasks queued on the sibling by their pids, by rising stamp, in a list that has as many places.
+    /// Writes the pids of the tasks queued on the sibling, by rising stamp, into a list that has as many places.
     pub fn tell_queued(&self, table: &TaskTable, cpu: Cpu, movers: &mut [Pid])
         requires { MayTell cpu (self.now, table.now) movers.old }
         ensures told { AreTold (map mover_of (queued_among table.now.tasks cpu)) movers.new }
@@ -41,8 +41,8 @@ impl<Q: SiblingQueue> Core<Q> {
         self.lanes[cpu as usize].queue.tell_into(table, cpu, movers);
     }
 
-    /// The tasks with these pids, one after another, are at home on the other sibling in the table, with the next stamps. Each
-    /// keeps what it is ahead of the least virtual time of the one sibling. The queues are to follow.
+    /// The tasks with these pids, one after another, are at home on the other sibling in the table, with the next
+    /// stamps. Each keeps what it is ahead of the least virtual time of the one sibling. The queues are to follow.
     #[inline(always)]
     pub fn place(&mut self, table: &mut TaskTable, pids: &[Pid], from: Cpu, to: Cpu)
         requires { MayPlace (length pids.now) from to self.old }
@@ -57,7 +57,7 @@ impl<Q: SiblingQueue> Core<Q> {
     }
 
     /// The queues of the two siblings change places, and the one that moved has its tasks as they are now. The list may
-    /// tell it in which order they moved.
+    /// show it in which order they moved.
     pub fn exchange<L: Ledger>(
         &mut self,
         table: &TaskTable,

@@ -1,4 +1,4 @@
-//! How two tasks compare where both queue on one sibling.
+//! How two tasks compare that both queue on one sibling.
 
 ghost use Rattle.std.specs.Prelude.{◌≡◌};
 ghost use Rattle.cs_types.specs.Order.{priority_of, is_fair, goes_before, is_higher_here};
@@ -24,7 +24,7 @@ pub fn is_fair(task: &Task) -> bool
     matches!(task.spec.policy, Policy::Fair(_))
 }
 
-/// Whether the task is higher than the other, where both queue on one sibling (`prio_less`,
+/// Whether the task is higher than the other, if both queue on one sibling (`prio_less`,
 /// kernel/sched/core.c).
 #[inline(always)]
 pub fn is_higher(task: &Task, other: &Task) -> bool

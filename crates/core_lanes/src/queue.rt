@@ -17,15 +17,15 @@ use task_table::TaskTable;
 /// The most tasks that live at once.
 pub const MOST_TASKS: usize = 256;
 
-/// The queued tasks of one sibling (`struct rq`). The tasks themselves stand in a table, which each call is
-/// handed: what the queue is asked is answered of the tasks that the table has queued on the sibling, and the
-/// queue has to hold these. A call that looks for a task is handed a counter for its comparisons, and makes at
-/// most so many as the queue says of its number of tasks.
+/// The queued tasks of one sibling (`struct rq`). The tasks themselves stand in a table, which each call is handed:
+/// what the queue is asked is answered of the tasks that the table has queued on the sibling, and the queue has to hold
+/// these. A call that looks for a task is handed a counter for its comparisons, and makes at most as many as the queue
+/// says for its number of tasks.
 pub trait SiblingQueue: Drop {
     /// That it holds these tasks, and can take this number in all.
     ghost holds: { Self → ℕ → List SomeQueued → Type 0 };
 
-    /// The most comparisons of one call where so many tasks are queued.
+    /// The most comparisons of one call, by the number of queued tasks.
     ghost most_compared: { ℕ → ℕ };
 
     /// A queue with no task, which can take `most`, a count. This call alone takes memory.
@@ -77,7 +77,7 @@ pub trait SiblingQueue: Drop {
         requires { holds self.old table.now.limit (queued_at table.now.tasks cpu) }
         ensures { holds self.new table.now.limit [] };
 
-    /// Each task is told by its pid, by rising stamp, in a list that has as many places.
+    /// Writes the pid of each task, by rising stamp, into a list that has as many places.
     fn tell_into(&self, table: &TaskTable, cpu: Cpu, movers: &mut [Pid])
         requires each { length movers.old ≡ length (queued_among table.now.tasks cpu) }
         requires few { length (queued_among table.now.tasks cpu) ≤ 256 }
@@ -85,7 +85,7 @@ pub trait SiblingQueue: Drop {
         ensures told { AreTold (map mover_of (queued_among table.now.tasks cpu)) movers.new };
 
     /// All tasks that it holds have moved to the sibling in the table, in the order in which they stand. It holds them
-    /// as they are now. It makes at most three times as many comparisons as another call. The list may tell it in which
+    /// as they are now. It makes at most three times as many comparisons as another call. The list may show it in which
     /// order they moved; nothing that it promises rests on that.
     fn renew<L: Ledger>(
         &mut self,
@@ -98,7 +98,7 @@ pub trait SiblingQueue: Drop {
         ensures holds { holds self.new table.now.limit (queued_at table.now.tasks cpu) }
         ensures counted { steps.new ≤ steps.old + 3 * most_compared (length (queued_among table.now.tasks cpu)) };
 
-    /// The first task, `None` where there is none (`pick_task`).
+    /// The first task, `None` if there is none (`pick_task`).
     fn first<L: Ledger>(&self, table: &TaskTable, cpu: Cpu, steps: &mut Steps<L>) -> Option<Queued>
         requires { MaySearch (holds self.now) cpu table.now }
         ensures answer { result ≡ option_map queued_of (first_of (queued_among table.now.tasks cpu)) }
@@ -116,7 +116,7 @@ pub trait SiblingQueue: Drop {
         ensures answer { result ≡ option_map queued_of (first_of (with_cookie cookie (queued_among table.now.tasks cpu))) }
         ensures counted { steps.new ≤ steps.old + most_compared (length (queued_among table.now.tasks cpu)) };
 
-    /// The first task with the cookie of this one, which is not 0, that stands behind it (`sched_core_next`).
+    /// The first task with the cookie of this one, which is not 0, that stands after it (`sched_core_next`).
     fn next_with<L: Ledger>(
         &self,
         task: &Task,
@@ -129,7 +129,7 @@ pub trait SiblingQueue: Drop {
         ensures answer { result ≡ first_of (behind task.now (with_cookie task.now.cookie (queued_among table.now.tasks cpu))) }
         ensures counted { steps.new ≤ steps.old + most_compared (length (queued_among table.now.tasks cpu)) };
 
-    /// The smallest virtual time of the fair tasks, in ns, `None` where there is none (`update_min_vruntime`).
+    /// The smallest virtual time of the fair tasks, in ns, `None` if there is none (`update_min_vruntime`).
     fn smallest_vtime<L: Ledger>(
         &self,
         table: &TaskTable,

@@ -44,7 +44,7 @@ is_above first other = stands_above (standing_of first) (standing_of other)
 abbrev pub firsts_of : RoomState → List Choice
 firsts_of room = map (λ cpu. choice_of (first_on room cpu)) (range_with_len 0 (length room.siblings))
 
--- what a sibling puts up to lead: its first, none where it is offline
+-- what a sibling puts up to lead: its first, none if it is offline
 abbrev pub offered : RoomState → ℕ → Option Task
 offered room cpu = if is_online room cpu then first_on room cpu else None
 
@@ -65,7 +65,7 @@ choices_of room core = map (λ cpu. choice_of (choice room core cpu)) (range_wit
 abbrev pub is_choice_of : ℕ → Choice → Bool
 is_choice_of pid choice = is_run (run_of choice) (Some pid)
 
--- a task remembers the occupation where it is this choice
+-- a task remembers the occupation if it is this choice
 abbrev pub task_after_choice : Choice → ℕ → Task → Task
 task_after_choice choice occupation task =
     if is_choice_of task.spec.pid choice then record task { occupation = occupation } else task
@@ -97,26 +97,27 @@ pub record AreCountsOf (room : RoomState) (core : ℕ) (counts : Counts) : Type 
   pub forced : counts.forced ≡ forced_count room core
   pub occupation : counts.occupation ≡ occupation_of room core
 
--- what a selection for a core cookie changes siblings by: the choices, the occupation, and whether snapshots are renewed
+-- what a selection for a core cookie changes siblings by: the choices, the occupation, and whether snapshots are
+-- renewed
 pub record IsPlan (room : RoomState) (core : ℕ) (choices : List Choice) (occupation : ℕ) (renews : Bool) : Type 0 where
   pub each : choices ≡ choices_of room core
   pub occupied : occupation ≡ occupation_of room core
   pub renewed : renews ≡ renews_snapshots room core
 
--- each sibling of the room gets its choice in a core-wide selection that the selector makes, and each task that is chosen
--- remembers the occupation
+-- each sibling of the room gets its choice in a core-wide selection that the selector makes, and each task that is
+-- chosen remembers the occupation
 pub record HandsOut {Q : Type 0} (room : RoomState) (selector core : ℕ) (lanes : List (Lane Q)) (old new : Table) : Type 0 where
   pub states : map lane_state lanes ≡ (select_for room selector core).siblings
   pub tasks : new ≡ record old { tasks = map (task_after_selection room core) old.tasks }
 
--- what a selection for a core cookie tells a sibling: whether it makes the selection itself, the occupation, and whether
--- snapshots are renewed
+-- what a selection for a core cookie hands to a sibling: whether it makes the selection itself, the occupation, and
+-- whether snapshots are renewed
 pub record IsTold (room : RoomState) (core selector cpu : ℕ) (selects : Bool) (occupation : ℕ) (renews : Bool) : Type 0 where
   pub itself : selects ≡ (cpu == selector)
   pub occupied : occupation ≡ occupation_of room core
   pub renewed : renews ≡ renews_snapshots room core
 
--- told that, a sibling is as the selection leaves it
+-- with that, a sibling is as the selection leaves it
 abbrev pub IsHanded : {Q : Type 0} → RoomState → ℕ → ℕ → ℕ → Bool → ℕ → Bool → Lane Q → Lane Q → Type 0
 IsHanded room core selector cpu selects occupation renews old new =
     IsTold room core selector cpu selects occupation renews → lane_state new ≡ sibling_after_selection room core selector cpu (lane_state old)

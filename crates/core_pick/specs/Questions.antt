@@ -37,12 +37,12 @@ KeepsFirst cpu both first = (beside : Beside) → let room = room_of beside both
 abbrev pub LeadsAlone : {Q : Type 0} {g : Ghosts Q} → ℕ → Core Q g × Table → First → Type 0
 LeadsAlone cpu both now = (beside : Beside) → now ≡ lead_in (room_of beside both) (cpu ∷ [])
 
--- where the one first leads some siblings, the other leads these and this sibling
+-- if the one first leads some siblings, the other leads these and this sibling
 abbrev pub LeadsWith : {Q : Type 0} {g : Ghosts Q} → ℕ → Core Q g × Table → First → First → Type 0
 LeadsWith cpu both before now = (beside : Beside) (order : List ℕ) → let room = room_of beside both in
     before ≡ lead_in room order → now ≡ lead_in room (order ++ cpu ∷ [])
 
--- where the one is its first task, the other is what it gets for a core cookie, and it is counted with that
+-- if the one is its first task, the other is what it gets for a core cookie, and it is counted with that
 abbrev pub GetsCounted : {Q : Type 0} → ℕ → ℕ → Lane Q → Table → Counts → Counts → Choice → Choice → Type 0
 GetsCounted cpu cookie lane table before now first given = (room : RoomState) →
     room.tasks ≡ table.tasks → sibling_of room cpu ≡ lane_state lane → first ≡ choice_of (first_on room cpu) →
@@ -60,7 +60,7 @@ pub record MayAskPart {Q : Type 0} {g : Ghosts Q} (from to : ℕ) (both : Core Q
 abbrev pub IsNoted : RoomState → List Choice → ℕ → Type 0
 IsNoted room firsts cpu = slice_index_or firsts cpu (choice_of None) ≡ choice_of (first_on room cpu)
 
--- so do theirs, and all that did before, and where the one first leads some siblings, the other leads these too
+-- so do theirs, and all that did before, and if the one first leads some siblings, the other leads these too
 pub record AsksPart {Q : Type 0} {g : Ghosts Q} (from to : ℕ) (both : Core Q g × Table) (old new : List Choice) (before now : First) : Type 0 where
   pub noted : (beside : Beside) (cpu : ℕ) → from ≤ cpu → cpu < to → IsNoted (room_of beside both) new cpu
   pub kept : (beside : Beside) (cpu : ℕ) → IsNoted (room_of beside both) old cpu → IsNoted (room_of beside both) new cpu

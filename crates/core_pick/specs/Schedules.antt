@@ -23,12 +23,12 @@ abbrev pub own_of : ℕ → Numbers → ℕ
 own_of cpu numbers = slice_index_or numbers.own cpu 0
 
 -- whether the three numbers let a sibling adopt what waits for it: nothing was touched since the last selection for the
--- core, and the sibling took no pick of that (`core_pick_seq`, `core_task_seq` and `core_sched_seq` in `pick_next_task`,
--- kernel/sched/core.c)
+-- core, and the sibling took no pick of that (`core_pick_seq`, `core_task_seq` and `core_sched_seq` in
+-- `pick_next_task`, kernel/sched/core.c)
 abbrev pub may_adopt_by : ℕ → Numbers → Bool
 may_adopt_by cpu numbers = (numbers.pick == numbers.task) && not (own_of cpu numbers == numbers.pick)
 
--- what a sibling may adopt: what waits for it, where the numbers let it
+-- what a sibling may adopt: what waits for it, if the numbers let it
 abbrev pub adoptable_by : ℕ → Numbers → RoomState → Option (Option ℕ)
 adoptable_by cpu numbers room = if may_adopt_by cpu numbers then (sibling_of room cpu).waiting else None
 
@@ -68,7 +68,8 @@ pub record Selects {Q : Type 0} {g : Ghosts Q} (now : ℕ) (old new : Core Q g �
   pub gets : (beside : Beside) → run ≡ pid_of (choice (room_of beside old) cookie sibling)
   pub forced : (beside : Beside) → new.0.account.count ≡ forced_count (room_of beside old) cookie
 
--- the new room and the pick are those of a schedule of the sibling at this moment, which a change of the room is
+-- the new room and the pick are those of a schedule of the sibling at this moment, which is given as a change of the
+-- room
 pub record Schedules {Q : Type 0} {g : Ghosts Q} (now : ℕ) (old new : Core Q g × Table) (cpu : ℕ) (chosen : Pick) (change : RoomState → Scheduled) : Type 0 where
   pub pick : (beside : Beside) → chosen ≡ (change (room_of (at now beside) old)).pick
   pub room : (beside : Beside) → room_of (at now beside) new ≡ (change (room_of (at now beside) old)).room
@@ -80,7 +81,7 @@ pub record SchedulesWithin {Q : Type 0} {g : Ghosts Q} (now : ℕ) (old new : Co
   pub schedules : Schedules now old new cpu chosen change
   pub counted : ComparesForSchedule old before after
 
--- the same of a schedule that charges the open interval, unless it adopts
+-- the same for a schedule that charges the open interval, unless it adopts
 pub record ChargesAndSchedules {Q : Type 0} {g : Ghosts Q} (now : ℕ) (old new : Core Q g × Table) (cpu : ℕ) (chosen : Pick) (change : RoomState → Scheduled) : Type 0 where
   pub pick : (beside : Beside) → chosen ≡ (change (room_of (at now beside) old)).pick
   pub room : BecomesCharged now old new (λ room. (change room).room)

@@ -81,7 +81,7 @@ pub struct Counts {
 }
 
 impl Counts {
-    /// The counts with a sibling that is forced idle, which counts where it is online.
+    /// The counts with a sibling that is forced idle, which counts if it is online.
     pub fn with_forced(self, online: bool) -> Counts
         requires { MayCount self }
         ensures { result ≡ record self { forced = self.forced + (if online then 1 else 0) } }
@@ -92,7 +92,7 @@ impl Counts {
         }
     }
 
-    /// The counts with a sibling for which a task is chosen, which counts where it is online.
+    /// The counts with a sibling for which a task is chosen, which counts if it is online.
     pub fn with_task(self, online: bool) -> Counts
         requires { MayCount self }
         ensures { result ≡ record self { occupation = self.occupation + (if online then 1 else 0) } }

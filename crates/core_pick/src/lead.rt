@@ -15,8 +15,8 @@ use sibling_priority::{Standing, rank_across};
 /// What a selection keeps of the first task of a sibling, which is less than the task, or of idle.
 #[derive(Clone, Copy)]
 pub struct First {
-    /// Its rank among the firsts of its class on all siblings, the smaller the higher: its own, from which the
-    /// snapshot of its sibling is taken where it is fair. 0 for idle.
+    /// Its rank among the firsts of its class on all siblings, the smaller the higher: its own, from which the snapshot
+    /// of its sibling is taken if it is fair. 0 for idle.
     pub rank_across: u128,
     /// The task, as a sibling gets it.
     pub choice: Choice,
@@ -44,7 +44,7 @@ impl First {
         }
     }
 
-    /// The higher of the two, this one where they tie.
+    /// The higher of the two, this one if they tie.
     #[inline(always)]
     pub fn or_higher(self, other: First) -> First
         ensures { result ≡ (if is_above other self then other else self) }

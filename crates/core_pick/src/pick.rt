@@ -30,7 +30,7 @@ fn may_adopt(task_number: u64, pick_number: u64, own_number: u64) -> bool
     pick_number == task_number && own_number != pick_number
 }
 
-/// What waits for the sibling, where its own number and those of the core let it adopt that.
+/// What waits for the sibling, if its own number and those of the core let it adopt that.
 fn adoptable<Q: SiblingQueue>(core: &Core<Q>, cpu: Cpu) -> Option<Option<Pid>>
     requires { cpu < length core.now.lanes.items }
     ensures { (beside : Beside) (table : Table) → result ≡ adoptable_by cpu (numbers_of (core.now, table)) (room_of beside (core.now, table)) }
@@ -99,8 +99,8 @@ fn pick_plain<Q: SiblingQueue>(core: &mut Core<Q>, cpu: Cpu, first: &First) -> P
 
 // ---- the selection
 
-/// Whether a selection renews snapshots, which it does not where some sibling was forced idle before it
-/// and some is after it.
+/// Whether a selection renews snapshots. It does not if some sibling was forced idle before it and some
+/// is after it.
 fn renews_snapshots(before: u8, after: u8) -> bool
     ensures { result ≡ ((before == 0) || (after == 0)) }
 {
@@ -108,7 +108,7 @@ fn renews_snapshots(before: u8, after: u8) -> bool
 }
 
 /// Gives each online sibling its choice for this core cookie, in a selection that the one sibling
-/// makes, where these are their first tasks, and answers what that one runs.
+/// makes. These are their first tasks. It answers what that one runs.
 fn select_for<Q: SiblingQueue, L: Ledger>(
     core: &mut Core<Q>,
     table: &mut TaskTable,
@@ -199,8 +199,8 @@ pub fn pick_and_balance<Q: SiblingQueue, L: Ledger>(
     pick
 }
 
-/// The sibling runs what waits for it where that may be adopted. Else the open interval is charged, and the
-/// sibling picks anew.
+/// The sibling runs what waits for it if that may be adopted. Else the open interval is charged, and the sibling picks
+/// anew.
 fn adopt_or_pick_anew<Q: SiblingQueue, L: Ledger>(
     core: &mut Core<Q>,
     table: &mut TaskTable,
@@ -220,9 +220,8 @@ fn adopt_or_pick_anew<Q: SiblingQueue, L: Ledger>(
     pick_anew(core, table, cpu, now, steps)
 }
 
-/// The sibling schedules at `now`, in ns from the start (`pick_next_task`). `None` exactly where it is
-/// offline, and then nothing changes. Each sibling is asked at most twice: for its first, and for its first with
-/// the core cookie.
+/// The sibling schedules at `now`, in ns from the start (`pick_next_task`). `None` exactly if it is offline, and then
+/// nothing changes. Each sibling is asked at most twice: for its first, and for its first with the core cookie.
 #[inline(always)]
 pub fn schedule<Q: SiblingQueue, L: Ledger>(
     core: &mut Core<Q>,
@@ -237,7 +236,7 @@ pub fn schedule<Q: SiblingQueue, L: Ledger>(
     ensures schedules { IfSome result (λ pick. ChargesAndSchedules now (core.old, table.old) (core.new, table.new) cpu pick
         (λ room. schedule room (may_adopt_by cpu (numbers_of (core.old, table.old))) cpu)) }
 
-    // How many comparisons the queues make for it, where none is longer than so many tasks.
+    // How many comparisons the queues make for it, by the most tasks that a queue has.
     ensures counted { ComparesForSchedule (core.old, table.old) steps.old steps.new }
 {
     if !core.is_online(cpu) {

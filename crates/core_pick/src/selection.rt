@@ -39,7 +39,7 @@ fn search_on<Q: SiblingQueue, L: Ledger>(
     lane.queue.first_with(cookie, table, cpu, steps)
 }
 
-/// Puts what a sibling gets for a core cookie in the place of its first, and gives the counts with it: that first, where
+/// Puts what a sibling gets for a core cookie in the place of its first, and gives the counts with it: that first, if
 /// it has the cookie, and else what a search finds. One whose first is idle gets that, and is not counted.
 #[inline(always)]
 fn settle<Q: SiblingQueue, L: Ledger>(
@@ -114,7 +114,7 @@ pub fn first_at<Q: SiblingQueue, L: Ledger>(
     first_kept(first.as_ref(), core.lanes[cpu as usize].snapshot)
 }
 
-/// The lead of one sibling alone, where this is what is kept of its first: that, and idle where it is offline.
+/// The lead of one sibling alone, of whose first this is kept: that, and idle if it is offline.
 #[inline(always)]
 fn lead_alone<Q: SiblingQueue>(core: &Core<Q>, cpu: Cpu, first: &First) -> First
     requires { cpu < length core.now.lanes.items }
@@ -127,8 +127,7 @@ fn lead_alone<Q: SiblingQueue>(core: &Core<Q>, cpu: Cpu, first: &First) -> First
     }
 }
 
-/// The lead of some siblings and of one more, where this is what is kept of its first. One that is offline puts up
-/// nothing.
+/// The lead of some siblings and of one more, of whose first this is kept. One that is offline puts up nothing.
 #[inline(always)]
 fn lead_with<Q: SiblingQueue>(core: &Core<Q>, cpu: Cpu, lead: First, first: First) -> First
     requires { cpu < length core.now.lanes.items }
@@ -141,8 +140,8 @@ fn lead_with<Q: SiblingQueue>(core: &Core<Q>, cpu: Cpu, lead: First, first: Firs
     }
 }
 
-/// Puts the first of each sibling from one on up to another in its place. Each is asked once. It gives the lead of all so
-/// far, where this is that of some before.
+/// Puts the first of each sibling from one on up to another in its place. Each is asked once. It is handed the lead of
+/// some siblings before, and gives the lead of all so far.
 #[inline(always)]
 fn ask_from<Q: SiblingQueue, L: Ledger>(
     firsts: &mut [Choice],
@@ -167,8 +166,9 @@ fn ask_from<Q: SiblingQueue, L: Ledger>(
     lead
 }
 
-/// Puts the first of each sibling in its place, where this is the one's. Each of the others is asked once, in the order
-/// in which they may lead: from the one on. It gives the cookie of the lead of a selection that the one makes, 0 for idle.
+/// Puts the first of each sibling in its place. It is handed that of the one. Each of the others is asked once, in the
+/// order in which they may lead: from the one on. It gives the cookie of the lead of a selection that the one makes, 0
+/// for idle.
 pub fn ask<Q: SiblingQueue, L: Ledger>(
     firsts: &mut [Choice],
     core: &Core<Q>,

@@ -20,7 +20,7 @@ pub fn run<Q: Drop>(lane: &mut Lane<Q>, run: Option<Pid>)
     lane.ran = 0;
 }
 
-/// It runs its first task, which is fair where the test says so, or idle (`se_fi_update`).
+/// It runs its first task, which is fair if the test says so, or idle (`se_fi_update`).
 pub fn run_first<Q: Drop>(lane: &mut Lane<Q>, first: Option<Pid>, is_fair: bool)
     ensures { lane.new ≡ record (lane_running lane.old first) { snapshot = if is_fair then lane.old.least else lane.old.snapshot } }
 {
@@ -30,8 +30,8 @@ pub fn run_first<Q: Drop>(lane: &mut Lane<Q>, first: Option<Pid>, is_fair: bool)
     }
 }
 
-/// It gets this task, or none for idle, in a core-wide selection, where it is online. The tests say whether it
-/// makes the selection itself, whether the task is fair, and whether snapshots are renewed.
+/// It gets this task, or none for idle, in a core-wide selection, if it is online. The tests say whether it makes the
+/// selection itself, whether the task is fair, and whether snapshots are renewed.
 #[inline(always)]
 fn take<Q: Drop>(
     lane: &mut Lane<Q>,
@@ -62,8 +62,8 @@ fn take<Q: Drop>(
     }
 }
 
-/// It gets this in a core-wide selection, where it is online. The tests say whether it makes the selection itself,
-/// and whether snapshots are renewed.
+/// It gets this in a core-wide selection, if it is online. The tests say whether it makes the selection itself, and
+/// whether snapshots are renewed.
 #[inline(always)]
 pub fn hand<Q: Drop>(
     lane: &mut Lane<Q>,

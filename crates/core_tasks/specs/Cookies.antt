@@ -36,7 +36,8 @@ pub record MaySetOne {Q G : Type 0} {g : Ghosts Q} (cookie : ℕ) (state : State
   pub may : MaySet cookie 2 state
   pub there : IsOf state.tasks.tasks task
 
--- a task may call `prctl`, where the test says whether fewer than two siblings are online: touches, a cookie's serial and each guard's count are left
+-- a task may call `prctl`; the test says whether fewer than two siblings are online. Touches, a cookie's serial and
+-- each guard's count are left
 pub record MayCall {Q G : Type 0} {g : Ghosts Q} (smt_off : Bool) (state : State Q G g) : Type 0 where
   pub sound : IsSound state
   pub own : RunTheirOwn (both state)

@@ -17,7 +17,7 @@ use Rattle.core_tasks.specs.declared.state.State.{State}
 abbrev pub both : {Q G : Type 0} {g : Ghosts Q} → State Q G g → Core Q g × Table
 both state = (state.core, state.tasks)
 
--- what is beside these, where these intervals were recorded
+-- what is beside these, if these intervals were recorded
 abbrev pub beside_of : {Q G : Type 0} {g : Ghosts Q} → List Interval → State Q G g → Beside
 beside_of intervals state =
     record {
@@ -31,7 +31,7 @@ beside_of intervals state =
       guards = state.guards.guards;
     }
 
--- the room that the state stands for, where these intervals were recorded
+-- the room that the state stands for, if these intervals were recorded
 abbrev pub room_with : {Q G : Type 0} {g : Ghosts Q} → List Interval → State Q G g → RoomState
 room_with intervals state = room_of (beside_of intervals state) (both state)
 
@@ -45,15 +45,15 @@ state_numbers state = with_ended state.ended.items (numbers_of (both state))
 abbrev pub IsGiven : ℕ → ℕ → Type 0
 IsGiven next pid = (0 < pid) × (pid < next)
 
--- a task that ended, beside what it was charged: its pid was given, no living task has it, and of those that ended no other
--- was charged by it
+-- a task that ended, beside what it was charged: its pid was given, no living task has it, and of those that ended no
+-- other was charged by it
 pub record IsGone (next : ℕ) (tasks : List Task) (ended : List (ℕ × ℕ)) (task : ℕ × ℕ) : Type 0 where
   pub given : task.0 < next
   pub absent : All (λ living. living.spec.pid ≢ task.0) tasks
   pub alone : total_among ended task.0 ≡ task.1
 
--- What always holds of a state: its core and its table agree; each task's pid was given; the tasks that ended are gone; and the
--- references are those of the tasks, and one more for a cookie that is held beside them.
+-- What always holds of a state: its core and its table agree; each task's pid was given; the tasks that ended are gone;
+-- and the references are those of the tasks, and one more for a cookie that is held beside them.
 pub record IsSoundBut {Q G : Type 0} {g : Ghosts Q} (state : State Q G g) (held : ℕ) : Type 0 where
   pub agree : Agree (both state)
   pub limit : state.tasks.limit ≡ state.task_limit

@@ -49,7 +49,7 @@ numbers_at opening moment =
 abbrev pub Becomes : {Q G : Type 0} {g : Ghosts Q} → State Q G g → State Q G g → (RoomState → RoomState) → Type 0
 Becomes old new change = (intervals : List Interval) → room_with intervals new ≡ change (room_with intervals old)
 
--- the same where it touched the queues this number of times
+-- the same, and it touched the queues this number of times
 pub record Touches {Q G : Type 0} {g : Ghosts Q} (count : ℕ) (old new : State Q G g) (change : RoomState → RoomState) : Type 0 where
   pub room : Becomes old new change
   pub numbers : state_numbers new ≡ touched count (state_numbers old)
@@ -57,7 +57,7 @@ pub record Touches {Q G : Type 0} {g : Ghosts Q} (count : ℕ) (old new : State 
 
 -- ---- steps
 
--- the new state and the reply are those that this was made of the old one by an event
+-- the new state and the reply are those of this outcome of an event in the old one
 pub record MakesStep {Q G : Type 0} {g : Ghosts Q} (intervals : List Interval) (old new : State Q G g) (event : Event) (answer : Reply) (made : Stepped) : Type 0 where
   pub reply : answer ≡ made.reply
   pub room : room_with made.room.intervals new ≡ made.room

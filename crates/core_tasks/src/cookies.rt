@@ -20,14 +20,14 @@ use prctl_core::{Planned, Target, plan};
 use std::sync::ledger::Ledger;
 use task_table::Group;
 
-/// A number of siblings that are online, one where SMT is off, and else two: a plan asks no more of it.
+/// A number of siblings that are online, one if SMT is off, and else two: a plan asks no more of it.
 fn siblings_where(smt_off: bool) -> u8
     ensures { nat_lt result 2 ≡ smt_off }
 {
     if smt_off { 1 } else { 2 }
 }
 
-/// The home of the task with the pid becomes pending where it runs it. No other sibling does.
+/// The home of the task with the pid becomes pending if it runs it. No other sibling does.
 fn flag_home<Q: Drop>(lanes: &mut [Lane<Q>], home: Cpu, pid: Pid)
     requires home { home < length lanes.old }
     requires alone { RunsAtMostAt home pid (map lane_state lanes.old) }
@@ -39,7 +39,7 @@ fn flag_home<Q: Drop>(lanes: &mut [Lane<Q>], home: Cpu, pid: Pid)
     }
 }
 
-/// How often the queues are touched where the task gets the cookie.
+/// How often the queues are touched if the task gets the cookie.
 fn touches(task: &Task, cookie: Cookie) -> u64
     ensures touches { result ≡ cookie_touches cookie task.now }
     ensures few { result ≤ 2 }
@@ -51,7 +51,7 @@ fn touches(task: &Task, cookie: Cookie) -> u64
 }
 
 impl<Q: SiblingQueue, G: Guard> State<Q, G> {
-    /// The task has the cookie, with a reference of its own, and where it runs its sibling becomes
+    /// The task has the cookie, with a reference of its own, and if it runs, its sibling becomes
     /// pending.
     #[inline(always)]
     fn set_cookie<L: Ledger>(&mut self, task: &Task, cookie: Cookie, steps: &mut Steps<L>)
@@ -99,7 +99,7 @@ impl<Q: SiblingQueue, G: Guard> State<Q, G> {
         }
     }
 
-    /// A call of `prctl(PR_SCHED_CORE, ..)` by the task with the pid, where the test says whether SMT is off.
+    /// A call of `prctl(PR_SCHED_CORE, ..)` by the task with the pid. The test says whether SMT is off.
     pub fn prctl<L: Ledger>(
         &mut self,
         smt_off: bool,

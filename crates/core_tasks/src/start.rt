@@ -10,7 +10,7 @@ use cs_types::{OutOfMemory, Pid, Scenario, TaskSpec};
 use std::alloc::Global;
 use task_table::TaskTable;
 
-/// One above the greatest pid of the lines, 1 where there is none.
+/// One above the greatest pid of the lines, 1 if there is none.
 pub fn first_pid(specs: &[TaskSpec]) -> Pid
     requires { All (λ spec. spec.pid ≤ 9999) specs.now }
     ensures { result ≡ first_pid specs.now }

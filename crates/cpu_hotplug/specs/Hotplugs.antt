@@ -1,4 +1,4 @@
--- Hotplugs: what an ask that a sibling leaves the core, or comes back, makes of a core and its table.
+-- Hotplugs: what becomes of a core and its table when a sibling is to leave the core, or to come back.
 use Rattle.std.specs.Prelude.{◌≡◌, ◌≢◌, ℕ, ◌*◌, length}
 use Rattle.cs_types.specs.declared.reply.Reply.{Reply}
 use Rattle.cs_types.specs.declared.reply.Reply.TheVariants as answer
@@ -33,14 +33,14 @@ reply_of Done = answer.Done
 reply_of Busy = answer.Refused Ebusy
 reply_of Already = answer.Already
 
--- how often the queues are touched where this number of tasks is queued on the sibling: twice for each that moves
+-- how often the queues are touched if this number of tasks is queued on the sibling: twice for each that moves
 abbrev pub leave_touches : Hotplug → ℕ → ℕ
 leave_touches Done queued = 2 * queued
 leave_touches Busy queued = 0
 leave_touches Already queued = 0
 
--- The new room and the answer are those of an ask at this moment that the sibling leaves. The open interval is charged
--- where it does, and else nothing changes.
+-- The new room and the answer are those of a sibling that is to leave at this moment. The open interval is charged if
+-- it leaves, and else nothing changes.
 pub record TakesOffline {Q : Type 0} {g : Ghosts Q} (now : ℕ) (old new : Core Q g × Table) (cpu : ℕ) (made : Hotplug) : Type 0 where
   pub reply : (beside : Beside) → reply_of made ≡ (take_offline (room_of (at now beside) old) cpu).reply
   pub room : BecomesCharged now old new (λ room. (take_offline room cpu).room)
@@ -50,7 +50,7 @@ pub record TakesOffline {Q : Type 0} {g : Ghosts Q} (now : ℕ) (old new : Core 
   pub unchanged : made ≢ Done → new ≡ old
   pub stays : Stays old new
 
--- the new room and the answer are those of an ask that the sibling comes back, and where it does not nothing changes
+-- the new room and the answer are those of a sibling that is to come back, and if it does not, nothing changes
 pub record BringsOnline {Q : Type 0} {g : Ghosts Q} (old new : Core Q g × Table) (cpu : ℕ) (made : Hotplug) : Type 0 where
   pub reply : (beside : Beside) → reply_of made ≡ (bring_online (room_of beside old) cpu).reply
   pub room : Becomes old new (λ room. (bring_online room cpu).room)

@@ -17,7 +17,7 @@ pub record ChangesLane {Q : Type 0} (old new : Lane Q) (change : SiblingState �
   pub number : new.number ≡ old.number
   pub queue : new.queue ≡ old.queue
 
--- no fair task of the list is behind this virtual time
+-- no fair task of the list is below this virtual time
 abbrev pub NoneBehind : ℕ → List Task → Type 0
 NoneBehind least tasks = All (λ task. IsTrue (is_fair task) → least ≤ task.vtime) tasks
 
@@ -34,7 +34,7 @@ pub record MayMoveOff {Q : Type 0} {g : Ghosts Q} (sibling : ℕ) (both : Core Q
   pub may : MayMoveAll sibling both
   pub another : (beside : Beside) → lowest_other (room_of beside both) sibling ≢ sibling
 
--- they may move to this sibling, which is the lowest other online one, and be told in this list
+-- they may move to this sibling, which is the lowest other online one, and be listed in this list
 pub record MayMoveAllTo {Q : Type 0} {g : Ghosts Q} (sibling to : ℕ) (movers : List ℕ) (both : Core Q g × Table) : Type 0 where
   pub may : MayMoveAll sibling both
   pub another : (beside : Beside) → lowest_other (room_of beside both) sibling ≢ sibling
@@ -42,11 +42,11 @@ pub record MayMoveAllTo {Q : Type 0} {g : Ghosts Q} (sibling to : ℕ) (movers :
   pub within : to < length both.0.lanes.items
   pub tell : MayTell sibling both movers
 
--- no fair task queued on the sibling is behind the least virtual time of its own
+-- no fair task queued on the sibling is below the least virtual time of its own
 abbrev pub AreAhead : {Q : Type 0} {g : Ghosts Q} → ℕ → Core Q g × Table → Type 0
 AreAhead sibling both = (beside : Beside) → NoneBehind (sibling_of (room_of beside both) sibling).least (queued_among both.1.tasks sibling)
 
--- so their queue may move as it is where none is queued on the other sibling
+-- so their queue may move as it is if none is queued on the other sibling
 pub record MovesWhole {Q : Type 0} {g : Ghosts Q} (sibling to : ℕ) (both : Core Q g × Table) : Type 0 where
   pub empty : queued_among both.1.tasks to ≡ []
   pub ahead : AreAhead sibling both
@@ -57,7 +57,7 @@ pub record IsQueuedAt (sibling : ℕ) (tasks : List Task) (task : Task) : Type 0
   pub queued : IsTrue task.queued
   pub home : task.home ≡ sibling
 
--- they may move past those that are queued on the other sibling, so many
+-- they may move past those that are queued on the other sibling, this number of them
 pub record MayMovePast {Q : Type 0} {g : Ghosts Q} (sibling other stay : ℕ) (movers : List ℕ) (both : Core Q g × Table) : Type 0 where
   pub all : MayMoveAllTo sibling other movers both
   pub ahead : AreAhead sibling both

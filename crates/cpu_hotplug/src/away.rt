@@ -17,7 +17,7 @@ use cs_types::Cpu;
 pub fn online_count<Q: SiblingQueue>(core: &Core<Q>) -> u8
     ensures { (beside : Beside) (table : Table) → result ≡ length (siblings_online (room_of beside (core.now, table))) }
 {
-    // In words, since a count in bytes of so few is made a vector's, which takes longer.
+    // It counts in words, since the compiler makes a vector of a count in bytes, which takes longer for so few.
     let mut count: usize = 0;
     for lane in core.lanes.iter() {
         if lane.online {
@@ -27,8 +27,8 @@ pub fn online_count<Q: SiblingQueue>(core: &Core<Q>) -> u8
     count as u8
 }
 
-/// Whether SMT is off, as it is where fewer than two siblings are online (`sched_smt_present`). No more siblings are
-/// looked at than tell it.
+/// Whether SMT is off, as it is if fewer than two siblings are online (`sched_smt_present`). It looks at no more
+/// siblings than it has to.
 pub fn is_smt_off<Q: SiblingQueue>(core: &Core<Q>) -> bool
     ensures { (beside : Beside) (table : Table) → result ≡ nat_lt (length (siblings_online (room_of beside (core.now, table)))) 2 }
 {
@@ -67,7 +67,7 @@ fn set_away<Q: Drop>(lane: &mut Lane<Q>)
     lane.place = 0;
 }
 
-/// The sibling becomes pending where it is online, since another leaves.
+/// The sibling becomes pending if it is online, since another leaves.
 fn stand_by<Q: Drop>(lane: &mut Lane<Q>)
     ensures { ChangesLane lane.old lane.new stand_by }
 {

@@ -16,7 +16,7 @@ use cs_types::{Cpu, Steps};
 use std::sync::ledger::Ledger;
 use task_table::TaskTable;
 
-/// What came of an ask that a sibling leaves the core, or comes back.
+/// What came of it when a sibling was to leave the core, or to come back.
 #[derive(Clone, Copy)]
 pub enum Hotplug {
     /// The sibling has left the core, or has come back.

@@ -14,10 +14,10 @@ use cs_types::{Cpu, Pid, Steps, Task};
 use std::sync::ledger::Ledger;
 use task_table::TaskTable;
 
-/// How many tasks are many, a count. So many change siblings with their queue, where they can.
+/// How many tasks are many, a count. From this number on they change siblings with their queue, if they can.
 const MANY: u32 = 16;
 
-/// How many times as many tasks have to come as stay, where their queue moves past those.
+/// How many times as many tasks have to come as stay, if their queue moves past those.
 const TIMES: u32 = 8;
 
 /// The tasks queued on the sibling move to the lowest other online one, in the order of their stamps.
@@ -46,7 +46,7 @@ pub fn move_off<Q: SiblingQueue, L: Ledger>(
     }
 }
 
-/// Whether no fair task that is queued on the sibling is behind its least virtual time, so that all keep their order as
+/// Whether no fair task that is queued on the sibling is below its least virtual time, so that all keep their order as
 /// they move.
 fn are_ahead<Q: SiblingQueue, L: Ledger>(
     core: &Core<Q>,
@@ -82,8 +82,8 @@ fn first_task<Q: SiblingQueue, L: Ledger>(
     task_of(table, first.pid).unwrap()
 }
 
-/// The tasks move with their queue past those that stay on the other sibling, `stay` of them: these sleep meanwhile, and are
-/// queued again as they were. The list, which has as many places, tells those that move.
+/// The tasks move with their queue past those that stay on the other sibling, `stay` of them: these sleep meanwhile,
+/// and are queued again as they were. The list, which has as many places, gets the pids of those that move.
 fn move_past<Q: SiblingQueue, L: Ledger>(
     core: &mut Core<Q>,
     table: &mut TaskTable,
@@ -110,7 +110,7 @@ fn move_past<Q: SiblingQueue, L: Ledger>(
 }
 
 /// The tasks move with their queue, which changes places with that of the other sibling. The list, which has as many
-/// places, tells them.
+/// places, gets their pids.
 fn move_queue<Q: SiblingQueue, L: Ledger>(
     core: &mut Core<Q>,
     table: &mut TaskTable,
@@ -129,7 +129,7 @@ fn move_queue<Q: SiblingQueue, L: Ledger>(
     core.exchange(table, cpu, to, movers, steps);
 }
 
-/// The tasks move one by one. The list, which has as many places, tells them.
+/// The tasks move one by one. The list, which has as many places, gets their pids.
 fn move_each<Q: SiblingQueue, L: Ledger>(
     core: &mut Core<Q>,
     table: &mut TaskTable,

@@ -74,8 +74,8 @@ fn end_alone(table: &mut TaskTable, refs: &mut CookieRefs, pid: Pid) -> (Task, u
 
 /// The task with the pid, which is asleep, ends as `end_alone` says.
 ///
-/// `HasThreads` comes exactly where the task leads a thread group that has another member: there are
-/// no zombies. It changes nothing.
+/// `HasThreads` comes exactly if the task leads a thread group that has another member: there are no
+/// zombies. It changes nothing.
 #[inline(always)]
 pub fn end(
     table: &mut TaskTable,

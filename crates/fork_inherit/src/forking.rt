@@ -47,7 +47,8 @@ fn is_deadline(policy: Policy) -> bool
     matches!(policy, Policy::Deadline(_))
 }
 
-/// Puts a task with the cookie, asleep and with all numbers 0, into a table that has a slot left and no task with its pid.
+/// Puts a task with the cookie, asleep and with all numbers 0, into a table that has a slot left and no task with its
+/// pid.
 fn insert(table: &mut TaskTable, spec: TaskSpec, cookie: Cookie)
     requires free { find (has_pid spec.pid) table.old.tasks ≡ None }
     requires spare { length table.old.tasks ≢ table.old.limit }
@@ -64,8 +65,8 @@ fn insert(table: &mut TaskTable, spec: TaskSpec, cookie: Cookie)
 /// process of its own (`copy_process`, kernel/fork.c). The child has its caller's cookie and one
 /// reference to it (`sched_core_fork`, kernel/sched/core_sched.c), and was charged nothing.
 ///
-/// `NoCaller` comes exactly where no living task has the pid of the caller, and else `Eagain` exactly
-/// where there are `limit` tasks, 0 to 65535, or the caller is a deadline task (`sched_fork`,
+/// `NoCaller` comes exactly if no living task has the pid of the caller, and else `Eagain` exactly if
+/// there are `limit` tasks, 0 to 65535, or the caller is a deadline task (`sched_fork`,
 /// kernel/sched/core.c). An `Err` changes nothing.
 pub fn fork(
     table: &mut TaskTable,

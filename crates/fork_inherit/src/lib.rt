@@ -1,5 +1,5 @@
 //! How a task is born and how one ends: what becomes of the table of the living and of the references
-//! to their cookies. It queues nobody and schedules nothing, which is a machine's.
+//! to their cookies. It queues no task and schedules nothing, which is left to a machine.
 #![tactic(auto)]
 
 mod ending;

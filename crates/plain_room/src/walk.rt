@@ -1,4 +1,4 @@
-//! The queue that is none: each question is answered by a walk over the table.
+//! The queue that keeps nothing: each question is answered by a walk over the table.
 
 ghost use Rattle.std.specs.Prelude.{◌≡◌, ◌+◌, ◌≤◌, ◌++◌, length, map, if◌then◌else◌};
 ghost use Rattle.cs_types.specs.Order.{goes_before};
@@ -22,7 +22,7 @@ type Stamped = ArrayVec<(u64, Pid), MOST_TASKS>;
 #[derive(Drop)]
 pub struct Walk;
 
-/// The task that goes before the other, the first where they tie.
+/// The task that goes before the other, the first if they tie.
 fn earlier(first: Task, task: Task) -> Task
     ensures { result ≡ (if goes_before task first then task else first) }
 {
@@ -33,7 +33,7 @@ fn earlier(first: Task, task: Task) -> Task
     }
 }
 
-/// Tells the tasks of the table that are queued on the sibling, each by its stamp and its pid.
+/// Lists the tasks of the table that are queued on the sibling, each by its stamp and its pid.
 fn tell(table: &TaskTable, cpu: Cpu, movers: &mut Stamped)
     requires places { length movers.old.items + length (queued_among table.now.tasks cpu) ≤ 256 }
     ensures told { movers.new.items ≡ movers.old.items ++ map mover_of (queued_among table.now.tasks cpu) }

@@ -64,12 +64,12 @@ abbrev pub reply_of : Planned → Reply
 reply_of (Go decision) = decision.reply
 reply_of (Answer reply) = reply
 
--- the cookie to which a plan holds a reference, 0 where it holds none
+-- the cookie to which a plan holds a reference, 0 if it holds none
 abbrev pub held_by : Planned → ℕ
 held_by (Go decision) = decision.cookie
 held_by (Answer reply) = 0
 
--- A plan that goes is answered with 0, or tells a cookie and then sets nobody's. Else it is refused.
+-- A plan that goes is answered with 0, or with a cookie, and then sets nobody's. Else it is refused.
 abbrev pub IsGranted : Reply → Decision → Type 0
 IsGranted Zero decision = Unit {0}
 IsGranted (Value cookie) decision = (decision.to ≡ Nobody) × (decision.cookie ≡ 0)
@@ -147,7 +147,7 @@ abbrev pub asked_about_all : GuardList → TaskSpec → List Task → List ℕ
 asked_about_all guards caller tasks =
     asked_until (map (λ member. (not (may_access guards caller member.spec), asked_about guards caller member.spec)) tasks)
 
--- those that are asked about the members: nobody where that is the target alone
+-- those that are asked about the members: none if that is the target alone
 abbrev pub asked_about_members_of : GuardList → List Task → Called → List ℕ
 asked_about_members_of guards tasks called =
     if is_alone called then [] else asked_about_all guards called.caller.now.spec (members_of tasks called)

@@ -36,7 +36,8 @@ fn named_by<'a>(table: &'a TaskTable, caller: &'a Task, pid: i32) -> Option<&'a 
     }
 }
 
-/// The call, where it is admitted, or its answer. Of `online` it only matters whether it is below 2.
+/// The call, if it is admitted, or its answer. All that matters of `online` is whether it is below
+/// 2.
 pub fn admit<'a, G: Guard>(
     table: &'a TaskTable,
     guards: &mut Guards<G>,

@@ -10,7 +10,7 @@ use cs_types::Ask;
 /// What a call asks for.
 #[derive(Clone, Copy)]
 pub enum Command {
-    /// The target's cookie is told (`PR_SCHED_CORE_GET`).
+    /// The target's cookie is asked for (`PR_SCHED_CORE_GET`).
     Get,
     /// A new cookie is made for the members (`PR_SCHED_CORE_CREATE`).
     Create,
@@ -21,7 +21,7 @@ pub enum Command {
 }
 
 impl Command {
-    /// The command with this number. `None` exactly where there is none.
+    /// The command with this number. `None` exactly if there is none.
     fn of(number: u32) -> Option<Command>
         ensures some { IfSome result (λ command. command_number command ≡ number) }
         ensures none { IfNone result (3 < number) }
@@ -48,7 +48,7 @@ pub enum Scope {
 }
 
 impl Scope {
-    /// The scope with this number. `None` exactly where there is none.
+    /// The scope with this number. `None` exactly if there is none.
     fn of(number: u32) -> Option<Scope>
         ensures some { IfSome result (λ scope. scope_number scope ≡ number) }
         ensures none { IfNone result (2 < number) }
@@ -62,7 +62,7 @@ impl Scope {
     }
 }
 
-/// The command and the scope of a call. `None` exactly where an argument is not valid.
+/// The command and the scope of a call. `None` exactly if an argument is not valid.
 pub fn arguments(ask: &Ask) -> Option<(Command, Scope)>
     ensures invalid { is_none result ≡ is_invalid ask.now }
     ensures command { IfSome result (λ named. command_number named.0 ≡ ask.now.cmd) }

@@ -1,5 +1,5 @@
 //! What a call of `prctl(PR_SCHED_CORE, ..)` comes to (`sched_core_share_pid`,
-//! kernel/sched/core_sched.c): an answer, and where it succeeds, whose cookie becomes which. It
+//! kernel/sched/core_sched.c): an answer, and if it succeeds, whose cookie becomes which. It
 //! changes no task, so a machine makes the setting of a plan by its own means.
 #![tactic(auto)]
 

@@ -15,8 +15,8 @@ use cs_types::{Errno, TaskSpec};
 use ptrace_check::{Guards, may_access};
 use task_table::{Group, TaskTable};
 
-/// Whether the caller may access every member of the group. They are asked by rising pid, up to the
-/// first that is refused.
+/// Whether the caller may access every member of the group. They are asked about by rising pid, up
+/// to the first that is refused.
 #[inline(always)]
 fn may_access_all<G: Guard>(
     table: &TaskTable,
@@ -38,7 +38,7 @@ fn may_access_all<G: Guard>(
     true
 }
 
-/// The members of the call's scope, or EPERM where one of them may not be accessed.
+/// The members of the call's scope, or EPERM if one of them may not be accessed.
 #[inline(always)]
 pub fn members<G: Guard>(
     table: &TaskTable,
@@ -64,7 +64,7 @@ pub fn members<G: Guard>(
     }
 }
 
-/// The caller itself, or EINVAL where the scope is not the target alone.
+/// The caller itself, or EINVAL if the scope is not the target alone.
 pub fn itself(called: &Called<'_>) -> Result<Target, Errno>
     ensures { NamesCaller called.now result }
 {

@@ -22,7 +22,7 @@ use task_table::TaskTable;
 /// The least address at which a GET may write, in bytes.
 const LEAST_ADDRESS: u64 = 4096;
 
-/// How many bytes a GET writes, at a multiple of as many.
+/// How many bytes a GET writes, at an address that is a multiple of this.
 const COOKIE_BYTES: u64 = 8;
 
 /// A call that is refused with this error.
@@ -50,7 +50,7 @@ fn get(called: &Called<'_>, addr: u64, user_top: u64) -> Planned
     })
 }
 
-/// The tasks get the cookie, to which the plan holds a reference. Where the call is refused, that is
+/// The tasks get the cookie, to which the plan holds a reference. If the call is refused, that is
 /// given back.
 #[inline(always)]
 fn give(refs: &mut CookieRefs, cookie: Cookie, to: Result<Target, Errno>) -> Planned
@@ -118,9 +118,8 @@ fn share(
     give(refs, task.cookie, to)
 }
 
-/// What a call of `prctl(PR_SCHED_CORE, ..)` by the task with the pid comes to, where `online` siblings
-/// are online, of which more than two need not be counted, and the caller's address space has `user_top`
-/// bytes, 8192 to 9223372036854775807.
+/// What a call of `prctl(PR_SCHED_CORE, ..)` by the task with the pid comes to. `online` siblings are online, of which
+/// more than two need not be counted, and the caller's address space has `user_top` bytes, 8192 to 9223372036854775807.
 ///
 /// `Answer` carries `NoCaller`, or the error of the first row of the table that applies. `Go` says
 /// whose cookie becomes which, and the answer: `Zero`, or `Value` for a GET. The plan holds one
@@ -142,8 +141,8 @@ pub fn plan<G: Guard>(
     requires serial { refs.old.next < 2 ^ 63 }
     requires asked { All (λ guard. guard.asked < 2 ^ 62) guards.old.guards.all }
 
-    // In each room of which these are the parts, this is the answer, and so are the cookies set. Where
-    // a cookie is made, its number is used, and these guards were asked.
+    // In each room of which these are the parts, this is the answer, and so are the cookies set. If a
+    // cookie is made, its number is used, and these guards were asked.
     ensures answer { (room : RoomState) → IsRoomOf room table.now refs.old guards.old.guards online user_top →
         prctl_answer room caller ask.now ≡ reply_of result }
     ensures sets { (room : RoomState) → IsRoomOf room table.now refs.old guards.old.guards online user_top →
@@ -153,7 +152,7 @@ pub fn plan<G: Guard>(
     ensures asked { (room : RoomState) → IsRoomOf room table.now refs.old guards.old.guards online user_top →
         guards.new.guards ≡ asked_each room.guards (asked_by_call room caller ask.now) }
 
-    // It goes exactly where the call succeeds, and then holds a reference to its cookie.
+    // It goes exactly if the call succeeds, and then holds a reference to its cookie.
     ensures planned { IsPlanned result }
     ensures held { AgreeBut refs.new table.now.tasks (held_by result) }
     ensures limit { refs.new.limit ≡ refs.old.limit }

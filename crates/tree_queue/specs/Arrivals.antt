@@ -2,7 +2,7 @@
 use Rattle.std.specs.Prelude.{◌≡◌, ℕ, ◌<◌, ◌≤◌, List, [], ◌∷◌, length, take, map, Contains}
 use Rattle.std.specs.List.{AllByRecursion}
 
--- each has a smaller stamp than those behind it
+-- each has a smaller stamp than those after it
 abbrev pub AreRising : List (ℕ × ℕ) → Type 0
 AreRising [] = Unit {0}
 AreRising (mover ∷ movers) = AllByRecursion (λ other. mover.0 < other.0) movers × AreRising movers
@@ -19,7 +19,7 @@ pub record AreBelow (tasks : List (ℕ × ℕ)) (above : ℕ) (pids : List ℕ) 
   pub among : AreAmong tasks pids
   pub below : AllByRecursion (λ mover. mover.0 < above) among.movers
 
--- The list begins with so many pids of such tasks.
+-- The list begins with this number of pids of such tasks.
 pub record BeginsBelow (tasks : List (ℕ × ℕ)) (above told : ℕ) (pids : List ℕ) : Type 0 where
   pub within : told ≤ length pids
   pub below : AreBelow tasks above (take told pids)

@@ -25,7 +25,8 @@ abbrev pub AreDistinct : List Queued → Type 0
 AreDistinct [] = Unit {0}
 AreDistinct (task ∷ tasks) = AllByRecursion (AreApart task) tasks × AreDistinct tasks
 
--- It has these tasks by their seats, and those with a cookie by their spots, no two are one, and it can take this number in all.
+-- It has these tasks by their seats, and those with a cookie by their spots, no two are one, and it can take this
+-- number in all.
 pub record Holds (run : RunQueued) (most : ℕ) (tasks : List Queued) : Type 0 where
   pub seats : run.tasks ≡ seated tasks
   pub spots : run.cookies ≡ spotted tasks
@@ -48,7 +49,7 @@ first_among tasks = foremost is_before tasks
 abbrev pub is_of : ℕ → Option Queued → Bool
 is_of pid first = option_map_or (λ task. task.pid == pid) first false
 
--- the task with this cookie, where it has this pid
+-- the task with this cookie, if it has this pid
 abbrev pub given_cookie : ℕ → ℕ → Queued → Queued
 given_cookie pid cookie task = if task.pid == pid then record task { cookie = cookie } else task
 
@@ -56,7 +57,7 @@ given_cookie pid cookie task = if task.pid == pid then record task { cookie = co
 abbrev pub IsIn : List Task → Queued → Type 0
 IsIn tasks queued = option_map queued_of (find (has_pid queued.pid) tasks) ≡ Some queued
 
--- the same of each task but this one
+-- the same for each task but this one
 abbrev pub IsInBut : List Task → Queued → Queued → Type 0
 IsInBut tasks task queued = (queued.pid ≡ task.pid → queued ≡ task) × (queued.pid ≢ task.pid → IsIn tasks queued)
 

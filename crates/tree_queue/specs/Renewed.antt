@@ -1,4 +1,4 @@
--- Renewed: the rank and the stamp of a task by its pid, where all tasks of a queue moved.
+-- Renewed: the rank and the stamp of a task by its pid, once all tasks of a queue moved.
 use Rattle.std.specs.Prelude.{ℕ, List, find, if◌then◌else◌}
 use Rattle.std.specs.Option.{option_map_or}
 use Rattle.cs_types.specs.declared.task.Task.{Task}

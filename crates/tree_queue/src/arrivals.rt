@@ -1,4 +1,4 @@
-//! The tasks that came to a queue, in the order in which they came. It is apart, since it is a hint: what it tells is
+//! The tasks that came to a queue, in the order in which they came. It is apart, since it is a hint: what it gives is
 //! looked up in the table, and nothing that is promised rests on what it keeps.
 
 ghost use Rattle.std.specs.Prelude.{◌≡◌, [], ℕ, ◌+◌, ◌^◌, ◌<◌, ◌≤◌, ◌++◌, length, take, drop, map, Contains, IsTrue};
@@ -11,18 +11,18 @@ use cs_types::{Cpu, OutOfMemory, Pid};
 use std::alloc::Global;
 use task_table::TaskTable;
 
-/// Tasks that came to a queue, each in its turn. Of those that left since nothing is taken out.
+/// Tasks that came to a queue, each in its turn. Those that left since are not taken out.
 #[derive(Drop)]
 pub struct Arrivals {
-    /// A place for each task that the queue can take. In the first of them stand the pids of those that came all at once,
-    /// by the last move.
+    /// A place for each task that the queue can take. In the first of them stand the pids of those that came all at
+    /// once, by the last move.
     moved: BoundedList<Pid>,
     /// How many these are.
     count: usize,
     /// The stamp of the first of these. Those of the others follow in a row.
     base: u64,
-    /// The stamps and the pids of those that came one by one since, by rising stamp. Of these the first may be lower than
-    /// those of the moved ones: such a task was there before these, left and came back.
+    /// The stamps and the pids of those that came one by one since, by rising stamp. Of these the first may be lower
+    /// than those of the moved ones: such a task was there before these, left and came back.
     entries: BoundedList<(u64, Pid)>,
 }
 
@@ -38,7 +38,7 @@ impl Arrivals {
         })
     }
 
-    /// A task came. Where there is no place for it, none of those that came one by one is kept any more.
+    /// A task came. If there is no place for it, none of those that came one by one is kept any more.
     #[inline(always)]
     pub fn note(&mut self, stamp: u64, pid: Pid) {
         if self.entries.len() < self.entries.room() {
@@ -68,8 +68,8 @@ impl Arrivals {
         self.entries.clear();
     }
 
-    /// The tasks that were told moved, in that order, and the stamps that they have in the table are in a row. None
-    /// is kept where there are not places for all.
+    /// The tasks of the list moved, in its order, and the stamps that they have in the table are in a row. None is kept
+    /// if there are not places for all.
     pub fn renew(&mut self, table: &TaskTable, movers: &[Pid]) {
         self.clear();
         self.base = first_stamp(table, movers);
@@ -79,9 +79,9 @@ impl Arrivals {
         }
     }
 
-    /// Tells the tasks that are queued on the sibling, `count` of them, by rising stamp, in a list that has as many
-    /// places. `false` where these are not all among those that are kept, or where far more are kept than there are: to
-    /// look these up would take longer than to ask the trees. Then the list may have got some of them.
+    /// Writes the pids of the tasks that are queued on the sibling, `count` of them, by rising stamp, into a list that
+    /// has as many places. `false` if these are not all among those that are kept, or if far more are kept than there
+    /// are: to look these up would take longer than to ask the trees. Then the list may have got some of them.
     pub fn tell(&self, table: &TaskTable, cpu: Cpu, count: usize, movers: &mut [Pid]) -> bool
         requires each { length movers.old ≡ count }
         requires count { count ≡ length (queued_among table.now.tasks cpu) }
@@ -114,7 +114,7 @@ fn sift(entries: &mut [(u64, Pid)]) {
     }
 }
 
-/// The stamp of the first task that was told, 0 where there is none.
+/// The stamp of the first task of the list, 0 if there is none.
 fn first_stamp(table: &TaskTable, movers: &[Pid]) -> u64 {
     let Some(pid) = movers.first() else {
         return 0;
@@ -125,9 +125,9 @@ fn first_stamp(table: &TaskTable, movers: &[Pid]) -> u64 {
     }
 }
 
-/// Tells those of the tasks that are queued on the sibling since they moved, behind the `before` that are told already,
-/// whose stamps are below. The first got the stamp `base` then, and those of the others follow in a row. The result is how
-/// many are told then. The list has a place for each task of the sibling.
+/// Writes the pids of those of the tasks that are queued on the sibling since they moved, after the `before` that are
+/// written already, whose stamps are below. The first got the stamp `base` then, and those of the others follow in a
+/// row. The result is how many are written then. The list has a place for each task of the sibling.
 fn tell_moved(
     moved: &[Pid],
     base: u64,
@@ -149,13 +149,13 @@ fn tell_moved(
         let there = count_there(rest, base + place as u64, table, cpu);
         copy_behind(movers, told, &rest[..there]);
         told += there;
-        // The task behind these is not there.
+        // The task after these is not there.
         place = (place + there + 1).min(moved.len());
     }
     told
 }
 
-/// Writes these behind so many of a list, which has places for them.
+/// Writes these after the first `told` of a list, which has places for them.
 #[inline(always)]
 fn copy_behind(movers: &mut [Pid], told: usize, run: &[Pid])
     requires { told + length run.now ≤ length movers.old }
@@ -164,8 +164,8 @@ fn copy_behind(movers: &mut [Pid], told: usize, run: &[Pid])
     movers[told..told + run.len()].copy_from_slice(run);
 }
 
-/// How many of the first of these tasks are queued on the sibling since the first got the stamp `base`, and the others those
-/// that follow in a row. Most are, so that one call mostly counts all.
+/// How many of the first of these tasks are queued on the sibling since the first got the stamp `base`, and the others
+/// those that follow in a row. Most are, so that one call mostly counts all.
 #[inline(never)]
 fn count_there(moved: &[Pid], base: u64, table: &TaskTable, cpu: Cpu) -> usize
     requires low { base + length moved.now < 2 ^ 64 }
@@ -181,9 +181,9 @@ fn count_there(moved: &[Pid], base: u64, table: &TaskTable, cpu: Cpu) -> usize
     moved.len()
 }
 
-/// Tells those of the entries that are tasks queued on the sibling since then, by rising stamp, behind the `before` that
-/// are told already, whose stamps are below `past`. It tells none with a stamp from `until` on. The result is how many are
-/// told then. The list has a place for each task of the sibling.
+/// Writes the pids of those of the entries that are tasks queued on the sibling since then, by rising stamp, after the
+/// `before` that are written already, whose stamps are below `past`. It writes none with a stamp from `until` on. The
+/// result is how many are written then. The list has a place for each task of the sibling.
 fn tell_entries(
     entries: &[(u64, Pid)],
     past: u64,
@@ -213,7 +213,7 @@ fn tell_entries(
     told
 }
 
-/// The stamp that comes after this one, 0 where none does.
+/// The stamp that comes after this one, 0 if none does.
 #[inline(always)]
 fn after(stamp: u64) -> u64
     ensures { 0 < result → result ≡ stamp + 1 }

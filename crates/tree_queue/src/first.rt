@@ -62,7 +62,7 @@ pub fn is_of(first: &Option<Queued>, pid: Pid) -> bool
     }
 }
 
-/// The first has the cookie, where it is the task with the pid.
+/// The first has the cookie, if it is the task with the pid.
 #[inline(always)]
 pub fn give_cookie(first: &mut Option<Queued>, pid: Pid, cookie: Cookie)
     ensures { first.new ≡ option_map (given_cookie pid cookie) first.old }
@@ -74,7 +74,7 @@ pub fn give_cookie(first: &mut Option<Queued>, pid: Pid, cookie: Cookie)
     }
 }
 
-/// The first of the tasks that the trees hold, of which the table tells what else a queue has.
+/// The first of the tasks that the trees hold, of which the table has what else a queue has.
 pub fn find_first<L: Ledger>(
     run: &RunQueue<Closed>,
     table: &TaskTable,
@@ -87,7 +87,7 @@ pub fn find_first<L: Ledger>(
     Some(queued_of(task))
 }
 
-/// The same where this is one of the tasks, which the table does not have so yet. It is not looked up.
+/// The same if this is one of the tasks, which the table does not have so yet. It is not looked up.
 pub fn find_first_with<L: Ledger>(
     run: &RunQueue<Closed>,
     task: Queued,

@@ -1,5 +1,5 @@
-//! The queue with trees: each question is answered from the ordered trees of a run queue, and the table tells the
-//! task of a pid.
+//! The queue with trees: each question is answered from the ordered trees of a run queue, and the table has the task of
+//! a pid.
 
 ghost use Rattle.std.specs.Prelude.{◌≡◌, ◌≤◌, [], length, map, IfOk};
 ghost use Rattle.std.specs.FinMap.{entries, len};
@@ -25,7 +25,7 @@ use task_table::TaskTable;
 #[derive(Drop)]
 pub struct TreeQueue {
     run: RunQueue<Closed>,
-    /// The first task, none where there is no task.
+    /// The first task, none if there is no task.
     first: Option<Queued>,
     kinds: [u16; KINDS],
     lots: [u16; LOTS],
@@ -210,15 +210,15 @@ fn run_with_capacity(alloc: Global, most: u16) -> Result<RunQueue<Closed>, OutOf
 {
     let mut run = RunQueue::empty(alloc);
     if let Err(full) = run.reserve(u32::from(most)) {
-        // By name, so that each part of it is let go by a function of its own, and none in line here.
+        // By name, so that each part of it is dropped by a function of its own, and none in line here.
         drop(run);
         return Err(full);
     }
     Ok(run.close())
 }
 
-/// Tells the tasks of the trees by rising stamp, in a list that has as many places. It is seldom called, since most
-/// tasks are told by their arrivals.
+/// Writes the pids of the tasks of the trees by rising stamp, into a list that has as many places. It is seldom called,
+/// since most are written by the arrivals.
 #[cold]
 #[inline(never)]
 fn tell_by_trees(run: &RunQueue<Closed>, movers: &mut [Pid])

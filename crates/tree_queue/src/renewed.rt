@@ -1,4 +1,4 @@
-//! The keys of a queue's tasks as a table has them. It is apart, since a queue is told them once for all.
+//! The keys of a queue's tasks as a table has them. It is apart, since a queue is handed them once for all.
 
 ghost use Rattle.tree_queue.specs.Renewed.{key_in};
 

@@ -1,5 +1,5 @@
-//! The tasks that the trees tell, which come in another order than by their stamps. They are apart, since the trees
-//! know no list.
+//! The tasks that the trees hand over, which come in another order than by their stamps. They are apart, since the
+//! trees know no list.
 
 ghost use Rattle.std.specs.Prelude.{◌≡◌, []};
 
@@ -8,7 +8,7 @@ use core_lanes::MOST_TASKS;
 use cs_types::Pid;
 use order_tree::Movers;
 
-/// Tasks that were told, each by its stamp and its pid.
+/// Tasks that were handed over, each by its stamp and its pid.
 #[derive(Drop)]
 pub struct ToldTasks {
     pub tasks: ArrayVec<(u64, Pid), MOST_TASKS>,
