@@ -12,7 +12,7 @@ abbrev pub is_option : Text → Bool
 is_option [] = false
 is_option (byte ∷ rest) = byte == 45
 
--- whether these words may follow the name: one where the command takes a value, else none
+-- whether these words may follow the name: one if the command takes a value, else none
 abbrev pub fits : Bool → List Text → Bool
 fits false [] = true
 fits true (value ∷ []) = true
@@ -36,6 +36,6 @@ abbrev pub words_by : Text → Option Text → List Text
 words_by name None = name ∷ []
 words_by name (Some value) = name ∷ value ∷ []
 
--- the same of those that are read
+-- the same for those that are read
 abbrev pub words_of : Bor Text × Option (Bor Text) → List Text
 words_of read = words_by read.0.now (option_map (λ value. value.now) read.1)

@@ -1,5 +1,5 @@
--- Program: the grammar that the parser is given, and the words of what it met. It is what the functions of this crate promise
--- one another.
+-- Program: the grammar that the parser is given, and the words of what it met. It is what the functions of this crate
+-- promise one another.
 use Rattle.std.specs.Prelude.{Bool, true, List, [], ◌∷◌, map, codes, if◌then◌else◌}
 use Rattle.clap.specs.Walk.{Text, Row, Rule, first_of}
 use Rattle.clap.specs.Simple.{App, Shape, new_rule, new_shape}
@@ -21,7 +21,7 @@ strict shape =
 abbrev pub value_rule : Rule
 value_rule = record (new_rule (codes "value")) { required = true }
 
--- a command of this name, with its value where it takes one
+-- a command of this name, with its value if it takes one
 abbrev pub command_of : Text → Bool → Shape
 command_of name takes_value = record (new_shape name) { rules = if takes_value then value_rule ∷ [] else [] }
 

@@ -16,7 +16,7 @@ pub enum Command {
     Replay,
     /// `race`: each actor of a scenario makes its script in a worker of its own.
     Race,
-    /// `drill` and a seed: the scenario that the seed gives is played.
+    /// `drill` and a seed: the scenario that is generated from the seed is played.
     Drill { seed: u32 },
 }
 
@@ -49,9 +49,9 @@ fn named(name: &str, seed: Option<&str>) -> Option<Command>
     }
 }
 
-/// The command that the words ask for, or `None` where they are no command's. A seed is a decimal number below
-/// 4,294,967,296, with no sign and no leading 0 but in `0` itself. Where there is no memory to parse the words,
-/// they are looked at letter by letter, so the answer is the same with little memory and with much.
+/// The command that the words ask for, or `None` if they are no command's. A seed is a decimal number below
+/// 4,294,967,296, with no sign and no leading 0 but in `0` itself. If there is no memory to parse the words, they are
+/// looked at letter by letter, so the answer is the same with little memory and with much.
 #[tactic(auto, using(crate::proofs::Seeds::plain_decimal))]
 pub fn command_of(alloc: Global, words: &[String]) -> Option<Command>
     ensures asked { (command : Command) → (result ≡ Some command) ↔ Asks command words.now }
@@ -72,7 +72,7 @@ pub fn is_replay(alloc: Global, words: &[String]) -> bool
     }
 }
 
-/// The seed of the drill that the words ask for, or `None` where they ask for none.
+/// The seed of the drill that the words ask for, or `None` if they ask for none.
 pub fn drill_seed(alloc: Global, words: &[String]) -> Option<u32>
     ensures { (seed : ℕ) → (result ≡ Some seed) ↔ Asks (Drill seed) words.now }
 {

@@ -50,9 +50,9 @@ fn spelled<'a>(forms: &[CommandForm], words: &'a [String]) -> Option<(&'a str, O
     (values.len() == usize::from(form.takes_value)).then_some((name, value))
 }
 
-/// The name of the command that the words are, and its value, or `None` where they are no command's. No word of a
-/// command begins with `-`. Where there is no memory to parse the words, they are looked at letter by letter, so the
-/// answer is the same with little memory and with much.
+/// The name of the command that the words are, and its value, or `None` if they are no command's. No word of a command
+/// begins with `-`. If there is no memory to parse the words, they are looked at letter by letter, so the answer is the
+/// same with little memory and with much.
 pub fn read_words<'a>(
     alloc: Global,
     program: &'a str,

@@ -1,5 +1,5 @@
--- Board: the rule of the lock's table, between any two steps, and what each kind of step tells.
--- The rooms are of any type: what one of them began with, its history, and how many entries it can still take are given.
+-- Board: the rule of the lock's table, between any two steps, and what each kind of step tells. The rooms are of any
+-- type: what one of them began with, its history, and how many entries it can still take are given.
 use Rattle.std.specs.Prelude.{◌≡◌, ◌≢◌, ℕ, ◌+◌, ◌^◌, ◌<◌, ◌≤◌, Bool, true, false, List, [], ◌∷◌, ◌++◌, map, length, All, Option, Some, sum_by}
 use Rattle.std.specs.List.{range_with_len}
 use mathlib.Core.Option as maybe
@@ -38,7 +38,7 @@ pub record Books : Type 0 where
   pub left : List (List Step)
   pub queue : ℕ → ℕ
 
--- A seat has a list of which so many steps have a ticket and are not made.
+-- A seat has a list of which this many steps have a ticket and are not made.
 pub record IsOwned (lists : List (List Step)) (books : Books) (seat drawn : ℕ) (has : Progress) : Type 0 where
   pub number : has.number < length lists
   pub owner : books.owner has.number ≡ seat
@@ -77,7 +77,7 @@ module _ {R : Type 0} (opening : R → Opening) (history : R → History) (spare
     pub tells : history room ≡ past
     pub spares : spare room + length past ≡ spare begun.room
 
-  -- what the one slot has: nothing where the room is out, and else the room
+  -- what the one slot has: nothing if the room is out, and else the room
   abbrev pub HasSlot : Beginning R → History → Bool → List (maybe.Option (Option R)) → Type 0
   HasSlot begun past true homes = homes ≡ maybe.none ∷ []
   HasSlot begun past false homes = (room : R) × (homes ≡ maybe.some (Some room) ∷ []) × IsRoomAt begun past room
@@ -89,12 +89,12 @@ module _ {R : Type 0} (opening : R → Opening) (history : R → History) (spare
     pub words : state.words ≡ books.ticket ∷ length books.past ∷ []
     pub slot : HasSlot begun books.past books.out state.homes
     pub behind : length books.past ≤ books.ticket
-    -- where the room is out, the ticket that is served was drawn, and its step is not made
+    -- if the room is out, the ticket that is served was drawn, and its step is not made
     pub ahead : books.out ≡ true → length books.past < books.ticket
     pub busy : books.out ≡ true → (number : ℕ) × (number < length begun.lists)
         × (books.made number + length (list_at books.left number) < length (list_at begun.lists number))
-    -- there is a place for the entry of each step that has a ticket or may still draw one, and no ticket passes what a word
-    -- holds
+    -- there is a place for the entry of each step that has a ticket or may still draw one, and no ticket passes what a
+    -- word holds
     pub enough : books.ticket + sum_by length books.left ≤ spare begun.room
     pub fits : spare begun.room < 2 ^ 64
     pub lists : AreLists (opening begun.room).scenario.siblings begun.lists
@@ -115,7 +115,7 @@ module _ {R : Type 0} (opening : R → Opening) (history : R → History) (spare
     pub spares : spare room + length (history room) ≡ spare begun.room
     pub more : 0 < spare room
 
-  -- a look: where the seat's own ticket is served, it has the turn, and else nothing changed
+  -- a look: if the seat's own ticket is served, it has the turn, and else nothing changed
   abbrev pub looked : TableStep (Option R) → Me (Option R) (View R) → ℕ → Me (Option R) (View R) → Type 0
   looked at before found now = (begun : Beginning R) (has : Progress) (ticket : ℕ) → before ≡ (Waiting begun has ticket, []) →
       (found ≡ ticket → (room : R) × HasTurn begun has ticket room now) × (found ≢ ticket → now ≡ before)
@@ -136,7 +136,8 @@ module _ {R : Type 0} where
   abbrev pub drawn : TableStep (Option R) → Me (Option R) (View R) → ℕ → Me (Option R) (View R) → Type 0
   drawn at before found now = (begun : Beginning R) (has : Progress) → before ≡ (Idle begun (has ∷ []), []) → now ≡ (Waiting begun has found, [])
 
-  -- the turn was passed on: the room is given back, and its history is seen, which has the first steps of each list alone
+  -- the turn was passed on: the room is given back, and its history is seen, which has the first steps of each list
+  -- alone
   abbrev pub passed : (R → History) → TableStep (Option R) → Me (Option R) (View R) → ℕ → Me (Option R) (View R) → Type 0
   passed history at before found now = (begun : Beginning R) (has : Progress) (ticket : ℕ) (room : R) →
       before ≡ (Holding begun has ticket, (0, Some room) ∷ []) →

@@ -20,8 +20,8 @@ actor_of (made ∷ steps) = made.actor
 abbrev pub HasNoList : List (List Step) → Actor → Type 0
 HasNoList lists actor = (number : ℕ) → number < length lists → is_actor (actor_of (list_at lists number)) actor ≡ false
 
--- A list that a pass can be made for: it has a step, all its steps are of one actor, and what each event names keeps its
--- limits.
+-- A list that a pass can be made for: it has a step, all its steps are of one actor, and what each event names keeps
+-- its limits.
 pub record IsList (siblings : ℕ) (steps : List Step) : Type 0 where
   pub some : 0 < length steps
   pub of_one : All (λ made. made.actor ≡ actor_of steps) steps
@@ -38,7 +38,7 @@ pub record AreLists (siblings : ℕ) (lists : List (List Step)) : Type 0 where
 abbrev pub events_first : ℕ → List Step → List Event
 events_first count steps = map (λ made. made.event) (take count steps)
 
--- A history has of each list the first steps, each once and in order, and nothing else.
+-- A history has the first steps of each list, each once and in order, and nothing else.
 pub record HasFirstSteps (lists : List (List Step)) (history : History) : Type 0 where
   pub each : (number : ℕ) → number < length lists →
       (count : ℕ) × (events_by (actor_of (list_at lists number)) history ≡ events_first count (list_at lists number))

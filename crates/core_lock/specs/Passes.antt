@@ -52,8 +52,8 @@ fresh_passes lock = map (fresh_pass lock) (range_with_len 0 (length lock.lists))
 abbrev pub HasOwn : PassState → History → Type 0
 HasOwn pass history = events_by (actor_by pass) history ≡ events_first pass.progress.made (list_of pass)
 
--- A pass makes its next step, with this reply. The history that it sees then begins with what it had seen, and ends with
--- this step. The place of the step is at least each length that the pass has read.
+-- A pass makes its next step, with this reply. The history that it sees then begins with what it had seen, and ends
+-- with this step. The place of the step is at least each length that the pass has read.
 pub record MakesNext (before : PassState) (reply : Reply) (now : PassState) : Type 0 where
   pub made : Step
   pub is_next : slice_get (list_of before) before.progress.made ≡ Some made
@@ -84,7 +84,8 @@ module _ {R : Type 0} (opening : R → Opening) (spare : R → ℕ) where
   pass_of table view = record { lock = record { table = table; opening = no_opening; spare = 0; lists = [] }; progress = fresh 0 }
 
 module _ {R : Type 0} (opening : R → Opening) where
-  -- What a pass keeps: the seat has one list, of which no step has a ticket. The steps are that list, and so many are made.
+  -- What a pass keeps: the seat has one list, of which no step has a ticket. The steps are that list, and this many are
+  -- made.
   pub record IsPass (me : Me (Option R) (View R)) (steps : List Step) (count : ℕ) : Type 0 where
     pub begun : Beginning R
     pub has : Progress

@@ -39,7 +39,7 @@ impl<R: Room> Play<Option<R>, View<R>> for Draw {
     ghost then = { drawn };
 }
 
-/// The ticket that is served is looked at. Where it is the seat's own, the seat takes the room.
+/// The ticket that is served is looked at. If it is the seat's own, the seat takes the room.
 pub(crate) struct Look;
 
 impl<R: Room> Play<Option<R>, View<R>> for Look {

@@ -28,7 +28,7 @@ impl<R: Room> Model for Pass<R> {
 }
 
 impl<R: Room> Pass<R> {
-    /// The step that the pass makes next. `None` exactly where it has made all its steps.
+    /// The step that the pass makes next. `None` exactly if it has made all its steps.
     pub fn next_step(&self) -> Option<Step>
         ensures { result ≡ slice_get (list_of self.now) self.now.progress.made }
     {

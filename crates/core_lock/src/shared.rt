@@ -71,8 +71,8 @@ impl<R: Room> Shared<R> {
         Ok((Shared { board }, passes))
     }
 
-    /// Makes the next step of the pass, and answers the room's reply. `Spent` comes exactly where the pass has
-    /// made all its steps, and nothing changes then.
+    /// Makes the next step of the pass, and answers the room's reply. `Spent` comes exactly if the pass has made all
+    /// its steps, and nothing changes then.
     ///
     /// The pass is of this lock. Whoever calls waits until those who came before have made their steps: it looks
     /// for a while, and then yields the processor between two looks.
@@ -89,7 +89,7 @@ impl<R: Room> Shared<R> {
         // The actor's entries are the steps that the pass made, each once and in order.
         ensures own { HasOwn pass.new pass.new.progress.seen }
 
-        // Of each list what the pass sees has the first steps, each once and in order, and nothing else.
+        // What the pass sees has the first steps of each list, each once and in order, and nothing else.
         ensures first_steps { HasFirstSteps pass.new.lock.lists pass.new.progress.seen }
 
         ensures spent { IfErr result (λ _. IsSpent pass.old × (pass.new ≡ pass.old)) }

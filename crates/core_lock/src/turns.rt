@@ -13,11 +13,11 @@ use crossbeam_utils::Backoff;
 use cs_types::{Reply, Room, Step};
 use std::sync::Wait;
 
-/// How often is looked at most, before a ticket is drawn, whether others have one.
+/// How often a seat looks at most, before it draws a ticket, whether others have one.
 const LOOKS: u32 = 16;
 
-/// Waits for a bounded time while others have tickets. A ticket is served in its order, so all behind it wait
-/// while the system runs something else on its holder's processor. Who has no ticket holds nobody up.
+/// Waits for a bounded time while others have tickets. A ticket is served in its order, so all after it wait while the
+/// system runs something else on its holder's processor. A seat without a ticket holds nobody up.
 pub(crate) fn let_others_go<R: Room>(top: &Top<R>)
     requires words { top.now.table_id.words ≡ 2 }
 {

@@ -13,8 +13,8 @@ use std::sync::Wait;
 use std::thread::Threads;
 use tree_queue::TreeQueue;
 
-/// The machine that is played: the one over trees. It is named by its parts, so that the program waits for no crate that
-/// names it.
+/// The machine that is played: the one over trees. It is named by its parts, so that the program waits for no crate
+/// that names it.
 type Machine = CoreRoom<TreeQueue, PairGuard>;
 
 /// Runs the command over these streams. Its output is complete only once the sink is flushed.

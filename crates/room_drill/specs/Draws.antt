@@ -55,7 +55,7 @@ pub record Table (X : Type 0) : Type 0 where
   pub rows : List (Row X)
   pub last : Row X
 
--- by the first of these rows that has the number, and where none has it by the last row
+-- by the first of these rows that has the number, and if none has it, by the last row
 abbrev pub by_one_of : {X : Type 0} → List (Row X) → Row X → ℕ → Draws X
 by_one_of [] last number = last.draws
 by_one_of (one ∷ rows) last number = if has one number then one.draws else by_one_of rows last number

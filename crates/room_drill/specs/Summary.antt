@@ -1,5 +1,5 @@
--- Summary: what is told of a drill's run: how many entries there are, how many picks of each kind and how many steal
--- tries, and then the report.
+-- Summary: what is written of a drill's run: how many entries there are, how many picks of each kind and how many tries
+-- to steal, and then the report.
 use Rattle.std.specs.Prelude.{ℕ, ◌+◌, Bool, true, false, if◌then◌else◌, List, [], ◌∷◌, ◌++◌, length, codes, decimal}
 use Rattle.std.specs.List.{count_by}
 use Rattle.std.specs.Option.{option_map_or}
@@ -23,16 +23,16 @@ is_plain Selected = false
 is_plain Adopted = false
 is_plain Plain = true
 
--- whether a reply tells a pick of such a kind, also where a task went to sleep or ended before it
+-- whether a reply has a pick of such a kind, even if a task went to sleep or ended before it
 abbrev pub tells : (Kind → Bool) → Reply → Bool
 tells is_kind reply = option_map_or (λ pick. is_kind pick.kind) (pick_of reply) false
 
--- whether a reply tells a steal
+-- whether a reply says that a task was stolen
 abbrev pub is_steal : Reply → Bool
 is_steal (Stole pid from) = true
 is_steal reply = false
 
--- whether a reply tells a steal try that found nothing
+-- whether a reply says that a try to steal found nothing
 abbrev pub is_miss : Reply → Bool
 is_miss (Missed cpu) = true
 is_miss reply = false
@@ -41,7 +41,7 @@ is_miss reply = false
 abbrev pub count_of : (Reply → Bool) → History → ℕ
 count_of is_counted history = count_by (λ entry. is_counted entry.reply) history
 
--- the picks of each kind and the steal tries of a history
+-- the picks of each kind and the tries to steal of a history
 abbrev pub tally_of : History → Tally
 tally_of history =
     record {
@@ -52,7 +52,7 @@ tally_of history =
       missed = count_of is_miss history;
     }
 
--- 1 where it is so, else 0
+-- 1 if it is so, else 0
 abbrev pub one_where : Bool → ℕ
 one_where is_so = if is_so then 1 else 0
 
@@ -67,7 +67,7 @@ with_reply reply tally =
       missed = tally.missed + one_where (is_miss reply);
     }
 
--- how many picks and steal tries these are
+-- how many picks and tries to steal these are
 abbrev pub total : Tally → ℕ
 total tally = tally.selected + tally.adopted + tally.plain + tally.stole + tally.missed
 

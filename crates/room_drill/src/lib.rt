@@ -1,5 +1,5 @@
-//! The drill: a scenario that a seed gives alone, for a quick look at a machine, and what is told of
-//! its run. A generator draws the scenario, so it needs no input.
+//! The drill: a scenario that is generated from a seed alone, for a quick look at a machine, and
+//! what is written of its run. A generator draws the scenario, so it needs no input.
 #![tactic(auto)]
 
 mod events;

@@ -10,7 +10,7 @@ use crate::size::{SIBLINGS, STEPS, TASKS};
 use cs_types::{List, OutOfMemory, Scenario, Step, TaskSpec};
 use std::alloc::Global;
 
-/// So many tasks, with the pids from 1 on.
+/// `count` tasks, with the pids from 1 on.
 fn tasks(alloc: Global, count: u32, generator: &mut Generator) -> Result<Vec<TaskSpec>, OutOfMemory>
     requires { count < u32.MAX }
     ensures { IfOk result (λ tasks. (tasks.items, generator.new) ≡ in_turn 1 count drawn_task generator.old) }
@@ -22,7 +22,7 @@ fn tasks(alloc: Global, count: u32, generator: &mut Generator) -> Result<Vec<Tas
     Ok(tasks)
 }
 
-/// So many steps.
+/// `count` steps.
 fn steps(alloc: Global, count: u32, generator: &mut Generator) -> Result<Vec<Step>, OutOfMemory>
     ensures { IfOk result (λ steps. (steps.items, generator.new) ≡ in_turn 1 count (λ number. drawn_step) generator.old) }
 {
@@ -38,7 +38,7 @@ fn steps(alloc: Global, count: u32, generator: &mut Generator) -> Result<Vec<Ste
 ///
 /// # Errors
 ///
-/// Only where there is no memory for its tasks and its steps.
+/// Only if there is no memory for its tasks and its steps.
 pub fn generate(alloc: Global, seed: u32) -> Result<Scenario, OutOfMemory>
     ensures scenario { IfOk result (λ scenario. scenario ≡ drill_scenario seed) }
     ensures valid { IfOk result IsValid }

@@ -5,7 +5,7 @@ ghost use Rattle.room_drill.specs.Summary.{tally_of, with_reply, total};
 
 use cs_types::{Kind, Reply, Room};
 
-/// How many picks of each kind there are, and how many steal tries, by whether they stole.
+/// How many picks of each kind there are, and how many tries to steal, by whether they stole.
 #[derive(Clone, Copy)]
 pub(crate) struct Tally {
     pub selected: u64,
@@ -29,7 +29,7 @@ impl Tally {
         }
     }
 
-    /// Counts what one more reply tells.
+    /// Counts what one more reply says.
     fn add(&mut self, reply: Reply)
         requires { total self.old < u64.MAX }
         ensures { self.new ≡ with_reply reply self.old }

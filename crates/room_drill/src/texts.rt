@@ -1,4 +1,4 @@
-//! What is told of a drill's run.
+//! What is written of a drill's run.
 
 ghost use Rattle.std.specs.Prelude.{◌≡◌, ◌≤◌, OnOk, OnErr};
 ghost use Rattle.cs_outside.specs.Device.{appended, Rose, WritesPrefix};
@@ -51,9 +51,10 @@ fn steals_line(tally: Tally) -> Line
 }
 
 /// Writes what a drill prints of this seed, after its run on this machine: how many entries the history
-/// has, how many picks of each kind and how many steal tries, those of the end among them, and then the
-/// report. Each line goes to the sink in one piece, and again with the rest where the sink took only a
-/// part. At an `Err` the sink has failed, and a prefix of the text is written. It takes no memory.
+/// has, how many picks of each kind and how many tries to steal, those of the final drain among them,
+/// and then the report. Each line goes to the sink in one piece, and again with the rest if the sink
+/// took only a part. At an `Err` the sink has failed, and a prefix of the text is written. It takes no
+/// memory.
 pub fn summary<R: Room, K: Sink>(seed: u32, room: &R, sink: &mut K) -> Result<(), Failed>
     ensures ok { OnOk result (K.written sink.new ≡ appended (K.written sink.old) (summary_text seed (R.opening room.now) (R.history room.now))) }
     ensures prefix { WritesPrefix (K.written sink.old) (summary_text seed (R.opening room.now) (R.history room.now)) (K.written sink.new) }

@@ -8,8 +8,8 @@ use cs_outside::{Failed, Sink, write_all};
 use cs_types::Entry;
 use scenario_text::Line;
 
-/// Writes the line of an entry to the sink, with its line feed, in one piece, and again with the rest
-/// where the sink took only a part. It takes no memory: the entry is put on `line`, in place of what is there.
+/// Writes the line of an entry to the sink, with its line feed, in one piece, and again with the rest if the sink took
+/// only a part. It takes no memory: the entry is put on `line`, in place of what is there.
 ///
 /// At an `Err` the sink has failed, and a prefix of the line is written.
 pub fn entry_text<K: Sink>(entry: &Entry, line: &mut Line, sink: &mut K) -> Result<(), Failed>

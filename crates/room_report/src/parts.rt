@@ -1,6 +1,6 @@
 //! The parts of the output, each with one loop at most. Each line goes to the sink in one piece, and
-//! again with the rest where the sink took only a part. At an `Err` the sink has failed, and a
-//! prefix of the part is written.
+//! again with the rest if the sink took only a part. At an `Err` the sink has failed, and a prefix
+//! of the part is written.
 
 ghost use Rattle.std.specs.Prelude.{◌≡◌, ◌≤◌, All, OnOk, OnErr};
 ghost use Rattle.std.specs.List.{flat_map};

@@ -14,8 +14,8 @@ use cs_outside::{Failed, Sink, write_all};
 use cs_types::Room;
 
 /// Writes the line of each entry, and then the report. Each line goes to the sink in one piece, and
-/// again with the rest where the sink took only a part. At an `Err` the sink has failed, and a
-/// prefix of the text is written. It takes no memory.
+/// again with the rest if the sink took only a part. At an `Err` the sink has failed, and a prefix
+/// of the text is written. It takes no memory.
 pub fn output<R: Room, K: Sink>(room: &R, sink: &mut K) -> Result<(), Failed>
     ensures ok { OnOk result (K.written sink.new ≡ appended (K.written sink.old) (output_text (R.opening room.now) (R.history room.now))) }
     ensures prefix { WritesPrefix (K.written sink.old) (output_text (R.opening room.now) (R.history room.now)) (K.written sink.new) }

@@ -16,7 +16,7 @@ use Rattle.command_words.specs.declared.command.Command.{Command}
 use Rattle.command_words.specs.declared.command.Command.TheVariants.{Replay, Race, Drill}
 use Rattle.scenario_runner.specs.Outcomes.{opened_with, IsReplayHistory, IsRaceHistory, Outputs, BreaksOff, DrillOutputs, DrillBreaksOff}
 
--- a device before and after a call: what it tells of its bytes, and the count of its faults
+-- a device before and after a call: what is known of its bytes, and the count of its faults
 pub record Used (D : Type 0) : Type 0 where
   pub bytes : D → Option (List ℕ)
   pub faults : D → ℕ
@@ -31,52 +31,54 @@ FaultsRose device = device.faults device.before < device.faults device.after
 abbrev pub IsFaultless : {D : Type 0} → Used D → Type 0
 IsFaultless device = device.faults device.after ≡ device.faults device.before
 
--- The input is a scenario, and this is its first teach line that cannot be carried out, by how many pairs each guard can be
--- taught.
+-- The input is a scenario, and this is its first teach line that cannot be carried out, by how many pairs each guard
+-- can be taught.
 pub record IsBadGuard (caps : List ℕ) (at : ℕ) (what : GuardKind) (input left : Option (List ℕ)) : Type 0 where
   pub scenario : Scenario
   pub reads : Reads scenario input left
   pub first : first_bad caps scenario.teaches ≡ Some (record { line = at; kind = what })
 
--- How a command ends that plays an input, over a source and a sink, with guards that can be taught so many pairs each, where
--- it is known what the history of a run is. Out of memory alone is free.
+-- How a command ends that plays an input, over a source and a sink, with guards that can be taught this many pairs
+-- each. What the history of a run may be is given. When memory runs out is left open.
 pub record EndsAs {S K : Type 0} (IsOutcome : Opening → History → Type 0) (caps : List ℕ) (source : Used S) (sink : Used K) (status : Status) : Type 0 where
-  -- where it is done, what was read is the text of a scenario, and what was written is the history of its run and its report
+  -- if it is done, what was read is the text of a scenario, and what was written is the history of its run and its
+  -- report
   pub done : status ≡ Done → (scenario : Scenario) ×
       Outputs IsOutcome (opened_with caps scenario) (source.bytes source.before) (source.bytes source.after) (sink.bytes sink.before) (sink.bytes sink.after)
-  -- no fault of the source was counted, unless a read fault is the answer, and none of the sink, unless a write fault is
+  -- no fault of the source was counted, unless a read fault is the answer, and none of the sink, unless a write fault
+  -- is
   pub faultless : (status ≢ ReadFault → IsFaultless source) × (status ≢ WriteFault → IsFaultless sink)
   -- its own words are never bad
   pub good_words : status ≢ BadWords
-  -- only where the source failed
+  -- only if the source failed
   pub read_fault : status ≡ ReadFault → FaultsRose source
-  -- exactly where more bytes were read than an input may have, which a source tells that tells its bytes
+  -- exactly if more bytes were read than an input may have, of a source whose bytes are known
   pub too_long : IfSome (source.bytes source.before) (λ _.
       (status ≡ TooLong) ↔ (input_limit < count_read (source.bytes source.before) (source.bytes source.after)))
   -- no more is read than one byte beyond that
   pub most : IfSome (source.bytes source.before) (λ _.
       count_read (source.bytes source.before) (source.bytes source.after) ≤ input_limit + 1)
-  -- only where the input was read to its end and no valid scenario has that text, with its first bad line and kind
+  -- only if the input was read to its end and no valid scenario has that text, with its first bad line and kind
   pub bad_scenario : (line : ℕ) (kind : BadKind) → status ≡ BadScenario line kind →
       IsBad line kind (source.bytes source.before) (source.bytes source.after)
-  -- only where the input is a scenario, and this is its first teach line that cannot be carried out
+  -- only if the input is a scenario, and this is its first teach line that cannot be carried out
   pub bad_guard : (line : ℕ) (kind : GuardKind) → status ≡ BadGuard line kind →
       IsBadGuard caps line kind (source.bytes source.before) (source.bytes source.after)
-  -- only where the sink failed, and then a prefix of the output was written
+  -- only if the sink failed, and then a prefix of the output was written
   pub write_fault : status ≡ WriteFault → FaultsRose sink × ((scenario : Scenario) ×
       BreaksOff IsOutcome (opened_with caps scenario) (source.bytes source.before) (source.bytes source.after) (sink.bytes sink.before) (sink.bytes sink.after))
-  -- nothing was written but where it is done or the sink failed
+  -- nothing was written unless it is done or the sink failed
   pub unwritten : status ≢ Done → status ≢ WriteFault → sink.after ≡ sink.before
-  -- it gives up on no valid scenario all of whose teach lines can be carried out, where nothing failed
+  -- it gives up on no valid scenario all of whose teach lines can be carried out, if nothing failed
   pub complete : (scenario : Scenario) → IsValid scenario →
       source.bytes source.before ≡ Some (scenario_text scenario) → length (scenario_text scenario) ≤ input_limit →
       first_bad caps scenario.teaches ≡ None → IsFaultless source → IsFaultless sink →
       (status ≡ Done) ⊎ (status ≡ OutOfMemory)
-  -- where the input has a first bad line, it tells that and its first kind
+  -- if the input has a first bad line, the status names that and its first kind
   pub told_line : (bytes : List ℕ) (line : ℕ) (kind : BadKind) →
       source.bytes source.before ≡ Some bytes → length bytes ≤ input_limit → IsFirstBad (lines_in bytes) line kind → IsFaultless source →
       (status ≡ BadScenario line kind) ⊎ (status ≡ OutOfMemory)
-  -- and where a teach line cannot be carried out, it tells the first
+  -- and if a teach line cannot be carried out, the status names the first
   pub told : (scenario : Scenario) (bad : BadTeach) → IsValid scenario →
       source.bytes source.before ≡ Some (scenario_text scenario) → length (scenario_text scenario) ≤ input_limit →
       first_bad caps scenario.teaches ≡ Some bad → IsFaultless source →
@@ -90,13 +92,13 @@ EndsAsReplay = EndsAs IsReplayHistory
 abbrev pub EndsAsRace : {S K : Type 0} → List ℕ → Used S → Used K → Status → Type 0
 EndsAsRace = EndsAs IsRaceHistory
 
--- How the command `drill` ends, by its seed. It has no input. Out of memory alone is free.
+-- How the command `drill` ends, by its seed. It has no input. When memory runs out is left open.
 pub record EndsAsDrill {K : Type 0} (seed : ℕ) (sink : Used K) (status : Status) : Type 0 where
   -- there is no other end
   pub either : (status ≡ Done) ⊎ ((status ≡ WriteFault) ⊎ (status ≡ OutOfMemory))
-  -- where it is done, what was written is the output of the drill
+  -- if it is done, what was written is the output of the drill
   pub done : status ≡ Done → DrillOutputs seed (sink.bytes sink.before) (sink.bytes sink.after)
-  -- only where the sink failed, and then a prefix of that was written
+  -- only if the sink failed, and then a prefix of that was written
   pub write_fault : status ≡ WriteFault → FaultsRose sink × DrillBreaksOff seed (sink.bytes sink.before) (sink.bytes sink.after)
   -- no fault of the sink was counted, unless a write fault is the answer
   pub faultless : status ≢ WriteFault → IsFaultless sink

@@ -1,5 +1,5 @@
--- Outcomes: what the history of a run is, by its command, and what is read and written where that is done, and where the
--- sink failed.
+-- Outcomes: what the history of a run is, by its command, and what is read and written if that is done, and if the sink
+-- failed.
 use Rattle.std.specs.Prelude.{◌≡◌, ◌≢◌, ℕ, ◌<◌, ◌≤◌, List, [], ◌∷◌, ◌++◌, length, filter, sum_by, not, All, AllPairs, Option, IfSome}
 use Rattle.cs_types.specs.declared.event.Actor.{Actor}
 use Rattle.cs_types.specs.declared.event.Actor.TheVariants.{End}
@@ -21,26 +21,27 @@ use Rattle.room_drill.specs.Drill.{drill_scenario}
 use Rattle.room_drill.specs.Summary.{summary_text}
 use Rattle.scenario_input.specs.Input.{Reads}
 
--- what a machine begins with that plays a scenario with guards which can be taught so many pairs each
+-- what a machine begins with that plays a scenario with guards which can be taught this many pairs each
 abbrev pub opened_with : List ℕ → Scenario → Opening
 opened_with caps scenario = record { scenario = scenario; guards = length caps }
 
--- The forced-idle totals of a room divide its recorded intervals. What a task was charged is by definition the sum of the
--- shares of the intervals that charge it (`forced_of`). What is promised is that this divides them: each lasted for some time,
--- no share is divided by 0, and no interval charges more than its forced-idle time. So what distinct tasks were charged is
--- together no more than the forced-idle time of all intervals.
+-- The forced-idle totals of a room divide its recorded intervals. What a task was charged is by definition the sum of
+-- the shares of the intervals that charge it (`forced_of`). What is promised is that this divides them: each lasted for
+-- some time, no share is divided by 0, and no interval charges more than its forced-idle time. So what distinct tasks
+-- were charged is together no more than the forced-idle time of all intervals.
 pub record DividesIntervals (room : RoomState) : Type 0 where
   pub lasts : All (λ interval. interval.from < interval.to) room.intervals
   pub divisors : All (λ interval. 0 < interval.occupation) room.intervals
   pub no_more : All (λ interval. charged_time interval ≤ forced_time interval) room.intervals
   pub together : (pids : List ℕ) → AllPairs (λ one other. one ≢ other) pids → sum_by (forced_of room) pids ≤ sum_by forced_time room.intervals
 
--- What is so of the history of each run.
+-- What holds of the history of each run.
 pub record IsPlayed (opening : Opening) (run : History) : Type 0 where
   -- it is legal, and each sibling and each caller made its script in it
   pub legal : IsLegal opening run
   pub scripts : (actor : Actor) → actor ≢ End → events_by actor run ≡ script opening.scenario actor
-  -- at each moment of it each online sibling without a pending reschedule runs idle or a living task with the core cookie
+  -- at each moment of it each online sibling without a pending reschedule runs idle or a living task with the core
+  -- cookie
   pub trust : (past rest : History) → run ≡ past ++ rest → IsSettled (fold_of opening past)
   -- each core-wide selection takes a highest task, and gives each sibling only a task with its cookie, or idle
   pub selections : (past : History) (entry : Entry) (rest : History) → run ≡ past ++ entry ∷ rest →
@@ -52,21 +53,21 @@ pub record IsPlayed (opening : Opening) (run : History) : Type 0 where
   pub nobody_pending : pending (fold_of opening run) ≡ []
   pub one_cookie : RunOneCookie (fold_of opening run)
 
--- The history is that of a replay: the file's steps in order, and then the entries of the end. No other is.
+-- The history is that of a replay: the file's steps in order, and then the entries of the final drain. No other is.
 pub record IsReplayHistory (opening : Opening) (run : History) : Type 0 where
   pub drained : IsDrained opening (file opening) run
   pub alone : (other : History) → IsDrained opening (file opening) other → other ≡ run
   pub played : IsPlayed opening run
 
--- the entries of a history that are not of the end
+-- the entries of a history that are not of the final drain
 abbrev pub before_end : History → History
 before_end history = filter (λ entry. not (is_actor entry.actor End)) history
 
--- The history is that of a race: a legal shuffle of all scripts, and then the entries of the end. After that shuffle no other
--- is.
+-- The history is that of a race: a legal shuffle of all scripts, and then the entries of the final drain. After that
+-- shuffle no other is.
 pub record IsRaceHistory (opening : Opening) (run : History) : Type 0 where
   pub shuffled : History
-  -- it is what the history has before the entries of the end
+  -- it is what the history has before the entries of the final drain
   pub before : shuffled ≡ before_end run
   pub legal : IsLegal opening shuffled
   pub shuffle : IsShuffle opening.scenario shuffled

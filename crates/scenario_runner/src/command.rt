@@ -18,12 +18,12 @@ use std::alloc::Global;
 use std::sync::Wait;
 use std::thread::Threads;
 
-/// Reads a scenario to its end, makes its steps in the order of their lines and then the entries of the
-/// end, and writes the line of each entry and the report, each line in one piece. It waits for nobody and always returns.
+/// Reads a scenario to its end, makes its steps in the order of their lines and then the entries of the final drain,
+/// and writes the line of each entry and the report, each line in one piece. It waits for nobody and always returns.
 ///
-/// The word is `replay`; other words are refused. Both counts of faults have to be below 2^64 - 1. At most 16 guards are
-/// handed in, which refuse nobody yet and were never asked. The scenario teaches them before it is played, and they are
-/// dropped at the end. `R` is the machine that plays it.
+/// The word is `replay`; other words are refused. Both counts of faults have to be below 2^64 - 1. At most 16 guards
+/// are handed in, which refuse nobody yet and were never asked. The scenario teaches them before it is played, and they
+/// are dropped at the end. `R` is the machine that plays it.
 pub fn replay<R: FromScenario<Guards<G>>, S: Source, K: Sink, G: Guard>(
     alloc: Global,
     words: &[String],
@@ -51,13 +51,13 @@ pub fn replay<R: FromScenario<Guards<G>>, S: Source, K: Sink, G: Guard>(
     replayed::<R, S, K, G>(alloc, source, sink, guards)
 }
 
-/// Draws the scenario of a seed, makes its steps in their order and then the entries of the end, and writes how many
-/// entries, picks and steal tries there were, and the report, each line in one piece. It reads nothing, waits for nobody
-/// and always returns.
+/// Draws the scenario of a seed, makes its steps in their order and then the entries of the final drain, and writes how
+/// many entries, picks and tries to steal there were, and the report, each line in one piece. It reads nothing, waits
+/// for nobody and always returns.
 ///
 /// The words are `drill` and the seed, a decimal number from 0 to 4294967295 with no sign and no leading 0 but in `0`
-/// itself; other words are refused. The sink's count of faults has to be below 2^64 - 1. `R` is the machine that plays it.
-/// No guard is handed in; `G` is the type that they would have.
+/// itself; other words are refused. The sink's count of faults has to be below 2^64 - 1. `R` is the machine that plays
+/// it. No guard is handed in; `G` is the type that they would have.
 pub fn drill<R: FromScenario<Guards<G>>, K: Sink, G: Guard>(
     alloc: Global,
     words: &[String],
@@ -80,10 +80,9 @@ pub fn drill<R: FromScenario<Guards<G>>, K: Sink, G: Guard>(
 }
 
 /// Runs the command of the words. The words of `replay` and of `drill` are those of these calls, and it does what they
-/// do. With the word `race` a scenario is read as for `replay`. Each actor that has a step line makes its
-/// script in a worker of its own, and the order of the entries is that in which the workers come to the room. A worker
-/// passes the gate before each of its turns, also before the one that finds its script made. Other words are no
-/// command's.
+/// do. With the word `race` a scenario is read as for `replay`. Each actor that has a step line makes its script in a
+/// worker of its own, and the order of the entries is that in which the workers come to the room. A worker passes the
+/// gate before each of its turns, even before the one that finds its script done. Other words are no command's.
 ///
 /// Else it asks for what `replay` asks for. With the word `race` it may wait, so its return is not promised. `R` is the
 /// machine that plays. A drill has no guards, so those that are handed in are dropped.

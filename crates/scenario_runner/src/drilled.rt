@@ -41,8 +41,8 @@ fn write_summary<R: Room, K: Sink>(seed: u32, room: &R, sink: &mut K) -> Status
     Status::of_writing(summary(seed, room, sink))
 }
 
-/// Makes the steps, in their order, in a room that has made none, and then the entries of the end, and writes the summary
-/// and the report.
+/// Makes the steps, in their order, in a room that has made none, and then the entries of the final drain, and writes
+/// the summary and the report.
 fn write_drill<R: Room, K: Sink>(seed: u32, mut room: R, steps: &[Step], sink: &mut K) -> Status
     requires empty { R.history room ≡ [] }
     requires spare { length steps.now + (R.opening room).scenario.siblings * (R.opening room).scenario.siblings
@@ -57,8 +57,8 @@ fn write_drill<R: Room, K: Sink>(seed: u32, mut room: R, steps: &[Step], sink: &
     write_summary(seed, &room, sink)
 }
 
-/// Plays the seed's scenario in the order of its steps, and then the entries of the end, and writes the summary and
-/// the report.
+/// Plays the seed's scenario in the order of its steps, and then the entries of the final drain, and writes the summary
+/// and the report.
 pub(crate) fn drilled<R: FromScenario<Guards<G>>, K: Sink, G: Guard>(
     alloc: Global,
     seed: u32,

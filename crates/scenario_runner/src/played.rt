@@ -21,8 +21,8 @@ use std::sync::Wait;
 use std::thread::Threads;
 
 /// The scenario that the input spells, and the room of it before its first step, in a machine of one kind, with the
-/// guards that it teaches. At most 16 guards are handed in, which refuse nobody yet and were never asked. At an `Err` it
-/// is told why the input is not played.
+/// guards that it teaches. At most 16 guards are handed in, which refuse nobody yet and were never asked. An `Err` says
+/// why the input is not played.
 pub fn opened<R: FromScenario<Guards<G>>, S: Source, G: Guard>(
     alloc: Global,
     source: &mut S,
@@ -66,8 +66,8 @@ fn write_output<R: Room, K: Sink>(room: &R, sink: &mut K) -> Status
     Status::of_writing(output(room, sink))
 }
 
-/// Makes the steps, in their order, in a room that has made none, and then the entries of the end, and writes the line of
-/// each entry and the report.
+/// Makes the steps, in their order, in a room that has made none, and then the entries of the final drain, and writes
+/// the line of each entry and the report.
 fn write_replay<R: Room, K: Sink>(mut room: R, steps: &[Step], sink: &mut K) -> Status
     requires empty { R.history room ≡ [] }
     requires spare { length steps.now + (R.opening room).scenario.siblings * (R.opening room).scenario.siblings
@@ -82,8 +82,8 @@ fn write_replay<R: Room, K: Sink>(mut room: R, steps: &[Step], sink: &mut K) -> 
     write_output(&room, sink)
 }
 
-/// Reads a scenario to its end, makes its steps in the order of their lines and then the entries of the end, and
-/// writes the line of each entry and the report.
+/// Reads a scenario to its end, makes its steps in the order of their lines and then the entries of the final drain,
+/// and writes the line of each entry and the report.
 pub(crate) fn replayed<R: FromScenario<Guards<G>>, S: Source, K: Sink, G: Guard>(
     alloc: Global,
     source: &mut S,
@@ -104,8 +104,9 @@ pub(crate) fn replayed<R: FromScenario<Guards<G>>, S: Source, K: Sink, G: Guard>
     }
 }
 
-/// Plays the scenario in the room, each actor in a worker of its own that passes the gate before each of its turns, makes
-/// the entries of the end, and writes what a replay writes. The scenario is the room's, which has made no step.
+/// Plays the scenario in the room, each actor in a worker of its own that passes the gate before each of its turns,
+/// makes the entries of the final drain, and writes what a replay writes. The scenario is the room's, which has made no
+/// step.
 fn write_race<R: Room + Send, T: Threads + Wait + AllocGlobal + Sync, K: Sink, P: Gate + Sync>(
     rt: &T,
     room: R,
@@ -127,9 +128,9 @@ fn write_race<R: Room + Send, T: Threads + Wait + AllocGlobal + Sync, K: Sink, P
     }
 }
 
-/// Reads a scenario to its end, lets its actors make their scripts beside each other, each in a worker of its own
-/// that passes the gate before each of its turns, makes the entries of the end, and writes what a replay writes.
-/// It may wait for the room, and where the gate does.
+/// Reads a scenario to its end, lets its actors make their scripts beside each other, each in a worker of its own that
+/// passes the gate before each of its turns, makes the entries of the final drain, and writes what a replay writes. It
+/// may wait for the room, and if the gate waits.
 pub(crate) fn raced<
     R: FromScenario<Guards<G>> + Send,
     T: Threads + Wait + AllocGlobal + Sync,

@@ -7,7 +7,7 @@ ghost use Rattle.sibling_workers.specs.Race.{actor_at, has_step, steps_by, lists
 use cs_types::{Actor, List, MOST_SIBLINGS, OutOfMemory, Step};
 use std::alloc::Global;
 
-/// How many siblings a core may have. The callers stand behind them in the order.
+/// How many siblings a core may have. The callers stand after them in the order.
 const SIBLINGS: u8 = MOST_SIBLINGS as u8;
 
 /// How many actors there can be, the callers among them.

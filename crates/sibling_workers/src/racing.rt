@@ -17,7 +17,7 @@ use std::sync::Wait;
 use std::thread::Threads;
 
 /// Makes all steps of the lists in the room, each list in a worker of its own, under one ticket lock.
-/// Where there is no list, there is no lock.
+/// If there is no list, there is no lock.
 fn play<T: Threads + Wait + Sync, R: Room + Send, G: Gate + Sync>(
     rt: &T,
     alloc: Global,
@@ -42,16 +42,16 @@ fn play<T: Threads + Wait + Sync, R: Room + Send, G: Gate + Sync>(
     Ok(shared.finish(passes))
 }
 
-/// Plays the scenario in the room: each actor that has a step line makes its script in a worker of its own,
-/// and all make their turns under one lock. Before each turn a worker passes the gate, also before the one
-/// that finds its script made. When all have come back, the entries of the end are made.
+/// Plays the scenario in the room: each actor that has a step line makes its script in a worker of its own, and all
+/// make their turns under one lock. Before each turn a worker passes the gate, even before the one that finds its
+/// script done. When all have come back, the entries of the final drain are made.
 ///
-/// The scenario can be played, and is the room's. The room has made no step. It can take an entry for each
-/// step and, for the end, the square of the siblings.
+/// The scenario can be played, and is the room's. The room has made no step. It can take an entry for each step and,
+/// for the final drain, the square of the siblings.
 ///
-/// At `Ok` the room has the opening that it had. Its history is a shuffle of all scripts, in which each
-/// reply is the one that the rules give at its place, with the entries of the end. Memory is taken before
-/// the first turn alone; without it no turn is made, and the room is dropped.
+/// At `Ok` the room has the opening that it had. Its history is a shuffle of all scripts, in which each reply is the
+/// one that the rules give at its place, and after it come the entries of the final drain. Memory is taken before the
+/// first turn alone; without it no turn is made, and the room is dropped.
 pub fn race<T: Threads + Wait + AllocGlobal + Sync, R: Room + Send, G: Gate + Sync>(
     rt: &T,
     room: R,
