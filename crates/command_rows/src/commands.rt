@@ -40,9 +40,9 @@ const LINES: [&str; 17] = [
 /// How many bytes the lines have.
 const OUTPUT_BYTES: u64 = 437;
 
-/// Expects that `run` without guards ends so over this text, and writes these bytes. The source gives so many bytes
-/// at once, and the sink takes so many. They fail at these calls, where they come to them. It returns how often each
-/// of them was called.
+/// Expects that `run` without guards ends so over this text, and writes these bytes. The source gives this many bytes
+/// at once, and the sink takes this many. They fail at these calls, if they come to them. It returns how often each of
+/// them was called.
 fn expect_run<R: Threads + Wait + AllocGlobal + Sync + Abort>(
     rt: &R,
     texts: &[&str],
@@ -65,7 +65,7 @@ fn expect_run<R: Threads + Wait + AllocGlobal + Sync + Abort>(
     (source.calls(), sink.calls())
 }
 
-/// The same of `replay`, over the plain machine.
+/// The same for `replay`, over the plain machine.
 fn expect_replay<R: AllocGlobal + Abort>(
     rt: &R,
     texts: &[&str],
@@ -113,7 +113,7 @@ fn expect_stored<R: Threads + Wait + AllocGlobal + Sync + Abort>(
     calls
 }
 
-// Each line in one piece, and again with the rest where only a byte was taken.
+// Each line in one piece, and again with the rest if only a byte was taken.
 #[test]
 fn stored_scenario_is_played(rt: HostRuntime) {
     let output = joined(rt.alloc(), &LINES).expect(&rt, "room");
@@ -130,8 +130,8 @@ fn stored_scenario_is_played(rt: HostRuntime) {
     assert!(rt; bytes.1 == OUTPUT_BYTES);
 }
 
-/// Expects that `run` and `replay` end so over the stored input, and write these lines. The source gives a
-/// byte at a time. It fails at the one call, and the sink at the other, where they come to it.
+/// Expects that `run` and `replay` end so over the stored input, and write these lines. The source gives a byte at a
+/// time. It fails at the one call, and the sink at the other, if they come to it.
 fn expect_faults<R: Threads + Wait + AllocGlobal + Sync + Abort>(
     rt: &R,
     fails: (u64, u64),
@@ -142,7 +142,7 @@ fn expect_faults<R: Threads + Wait + AllocGlobal + Sync + Abort>(
     expect_stored(rt, &["replay"], (1, 4096), fails, wanted, &output);
 }
 
-// A source gives a byte at a call, and then tells its end. What is set for a later call never comes.
+// A source gives a byte at a call, and then its end. What is set for a later call never comes.
 #[test]
 fn source_that_fails_at_each_call(rt: HostRuntime) {
     let bytes = INPUT.len() as u64;

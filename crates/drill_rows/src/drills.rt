@@ -144,7 +144,7 @@ fn scenarios_are_drawn(rt: HostRuntime) {
     }
 }
 
-/// Expects that the summary of the machine tells these lines, after the entries of the end, and then the report.
+/// Expects that the summary of the machine has these lines, after the entries of the final drain, and then the report.
 fn expect_summary<R: AllocGlobal + Abort, M: Room>(rt: &R, mut room: M, lines: &str, report: &str) {
     let siblings = u64::from(room.siblings());
     assert!(rt; siblings * siblings <= room.spare());
@@ -210,7 +210,8 @@ report
 clock 2418059194
 ";
 
-/// What `run` writes with the words `drill` and this seed, to a sink that fails at this call. It reads nothing, and ends so.
+/// What `run` writes with the words `drill` and this seed, to a sink that fails at this call. It reads nothing, and
+/// ends so.
 fn drilled<R: Threads + Wait + AllocGlobal + Sync + Abort>(
     rt: &R,
     seed: &str,

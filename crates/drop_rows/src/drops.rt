@@ -1,5 +1,5 @@
-//! Each guard that is handed in is let go once, however the command ends: guards that count their drops, over
-//! each status, for both commands.
+//! Each guard that is handed in is dropped once, however the command ends: guards that count their drops, over each
+//! status, for both commands.
 
 ghost use Rattle.std.specs.Prelude.{◌≡◌, All, vec_len};
 ghost use Rattle.ptrace_check.specs.Guards.{AreFresh};
@@ -36,7 +36,7 @@ fn two_long<R: AllocGlobal + Abort>(rt: &R, drops: &Arc<AtomicU64, Global>) -> V
     Vec::from_array(rt.alloc(), guards).expect(rt, "room")
 }
 
-/// Expects that so many guards were let go.
+/// Expects that this many guards were dropped.
 fn expect_drops(rt: &impl Abort, drops: &Arc<AtomicU64, Global>, wanted: u64) {
     assert!(rt; drops.load(Ordering::SeqCst) == wanted);
 }
@@ -95,7 +95,7 @@ const ENDS: [End; 5] = [
     },
 ];
 
-// Both are let go, the one by its unload and the other at the end.
+// Both are dropped, the one by its unload and the other at the end.
 #[test]
 fn guards_of_a_stranger(rt: HostRuntime) {
     let drops = counter(&rt);
@@ -111,7 +111,7 @@ fn guards_of_a_stranger(rt: HostRuntime) {
     expect_drops(&rt, &drops, 2);
 }
 
-// Of a guard that is unloaded nothing is left, also where others stay.
+// Nothing is left of a guard that is unloaded, even if others stay.
 #[test]
 fn guard_is_let_go_when_it_is_unloaded(rt: HostRuntime) {
     let drops = counter(&rt);
@@ -140,7 +140,7 @@ fn expect_end<R: Threads + Wait + AllocGlobal + Sync + Abort, G: Guard + Send>(
     assert!(rt; run_over_trees(rt, &words, &mut source, &mut sink, &NoGate, guards) == end.status);
 }
 
-/// Expects that two guards are let go once each where `run` with these words ends so.
+/// Expects that two guards are dropped once each if `run` with these words ends so.
 fn expect_let_go<R: Threads + Wait + AllocGlobal + Sync + Abort>(
     rt: &R,
     texts: &[&str],
@@ -185,7 +185,7 @@ fn guards_at_bad_words(rt: HostRuntime) {
     expect_drops(&rt, &drops, 2);
 }
 
-/// Expects that two guards are let go once each where the input is a byte too long.
+/// Expects that two guards are dropped once each if the input is a byte too long.
 fn expect_let_go_of_long<R: Threads + Wait + AllocGlobal + Sync + Abort>(rt: &R, texts: &[&str]) {
     let drops = counter(rt);
     let text = vec![in rt.alloc(); b'x'; 16_777_217].expect(rt, "room");
@@ -217,7 +217,7 @@ fn two_poor<R: AllocGlobal + Abort>(rt: &R, drops: &Arc<AtomicU64, Global>) -> V
     Vec::from_array(rt.alloc(), guards).expect(rt, "room")
 }
 
-/// Expects that a guard that is out of memory ends the command, and that two guards are let go once each.
+/// Expects that a guard that is out of memory ends the command, and that two guards are dropped once each.
 fn expect_let_go_of_poor<R: Threads + Wait + AllocGlobal + Sync + Abort>(rt: &R, texts: &[&str]) {
     let drops = counter(rt);
     let end = End {

@@ -1,4 +1,5 @@
-//! Each guard that is handed in is let go once, however the command ends: guards that somebody else wrote count their drops.
+//! Each guard that is handed in is dropped once, however the command ends: guards that somebody else wrote count their
+//! drops.
 #![tactic(auto)]
 
 #[cfg(test)]

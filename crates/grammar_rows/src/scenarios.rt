@@ -86,12 +86,12 @@ fn expect_bad<R: Threads + Wait + AllocGlobal + Sync + Abort>(
     assert!(rt; sink.bytes() == b"".as_slice());
 }
 
-/// The head, and behind it this text.
+/// The head, and after it this text.
 fn text_of<R: AllocGlobal + Abort>(rt: &R, head: &str, rest: &str) -> Vec<u8> {
     joined(rt.alloc(), &[head, rest]).expect(rt, "room")
 }
 
-/// Expects that each of these texts is refused behind the head.
+/// Expects that each of these texts is refused after the head.
 fn expect_refused<R: Threads + Wait + AllocGlobal + Sync + Abort>(
     rt: &R,
     head: &str,
@@ -111,7 +111,7 @@ fn refuses_other_texts(rt: HostRuntime) {
     expect_refused(&rt, HEAD, &REFUSED_TEACHES);
 }
 
-/// A text of a head, one task and this line so many times.
+/// A text of a head, one task and this line `count` times.
 fn text_of_lines<R: AllocGlobal + Abort>(rt: &R, line: &str, count: usize) -> Vec<u8> {
     let lines = line.repeat(rt.alloc(), count).expect(rt, "room");
     joined(rt.alloc(), &[HEAD, &lines, "end\n"]).expect(rt, "room")

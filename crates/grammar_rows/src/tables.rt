@@ -1,5 +1,5 @@
-//! The lines and the texts that the tests read, each of those that are refused with the rule that it breaks, its first bad
-//! line and what is wrong with it.
+//! The lines and the texts that the tests read, each of those that are refused with the rule that it breaks, its first
+//! bad line and what is wrong with it.
 
 use scenario_text::BadKind;
 
@@ -94,7 +94,7 @@ pub const REFUSED_TEXTS: [Refused; 15] = [
     ),
 ];
 
-/// The same, behind the head and the task, whose lines are four, with steps.
+/// The same, after the head and the task, whose lines are four, with steps.
 pub const REFUSED_STEPS: [Refused; 55] = [
     ("a last line feed", 5, BadKind::Cut, "end"),
     ("an end", 5, BadKind::Cut, ""),

@@ -185,7 +185,7 @@ fn listed<R: AllocGlobal + Abort>(rt: &R) -> Vec<ListGuard>
     Vec::from_array(rt.alloc(), [ListGuard::with_cap(rt.alloc(), 1)]).expect(rt, "room")
 }
 
-/// The same scenario where there is no second guard.
+/// The same scenario if there is no second guard.
 const LISTED_OUTPUT: &str = concat!(
     "c0 prctl 1 2 2 0 0: 0\nc0 load 0: Loaded\nc0 load 0: NoGuard\nc0 load 1: NoGuard\n",
     "c0 prctl 1 2 2 0 0: EPERM\nc0 prctl 1 2 1 0 0: 0\nc0 unload 0: Dropped\n",

@@ -139,7 +139,7 @@ fn expect_wakes<R: Wait + Abort, M: Room>(rt: &R, shared: &Shared<M>, pass: &mut
     assert!(rt; matches!(second, Reply::Woken(0)) && matches!(third, Reply::Woken(0)));
 }
 
-/// Whether the sibling chose this task for itself alone, while the core had no cookie and nobody was forced idle.
+/// Whether the sibling chose this task for itself alone, while the core had no cookie and no sibling was forced idle.
 fn is_plain(pick: Pick, run: Pid) -> bool {
     matches!(pick.kind, Kind::Plain) && (pick.run, pick.core, pick.forced) == (run, 0, 0)
 }
@@ -245,7 +245,7 @@ fn make_all<R: Wait, M: Room>(rt: &R, shared: &Shared<M>, mut pass: Pass<M>) -> 
         if let Err(Spent) = shared.call(rt, &mut pass) {
             return (pass, last);
         }
-        // This step stands behind all that was there before, whatever others do meanwhile.
+        // This step stands after all that was there before, whatever others do meanwhile.
         let now = shared.length(&mut pass);
         prove!(last < now);
         last = now;

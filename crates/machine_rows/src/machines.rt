@@ -32,7 +32,7 @@ fn output_of<R: AllocGlobal + Abort, M: Room>(rt: &R, room: &M) -> MemSink {
     sink
 }
 
-/// What is told of the machine now, as of a drill.
+/// What is written of the machine now, as of a drill.
 fn summary_of<R: AllocGlobal + Abort, M: Room>(rt: &R, room: &M) -> MemSink {
     let mut sink = wide_sink(rt);
     summary(1, room, &mut sink).expect(rt, "a sink that takes all");
@@ -54,7 +54,7 @@ fn expect_same<R: AllocGlobal + Abort, A: Room, B: Room>(rt: &R, one: &A, other:
     }
 }
 
-/// Plays the scenario in both machines, and expects the same before the entries of the end and after them.
+/// Plays the scenario in both machines, and expects the same before the entries of the final drain and after them.
 fn expect_same_runs<R: AllocGlobal + Abort, A: Room, B: Room>(
     rt: &R,
     scenario: &Scenario,

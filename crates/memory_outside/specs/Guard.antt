@@ -10,8 +10,7 @@ pub record ListGuardState : Type 0 where
   pub cap : ℕ
   pub asked : ℕ
 
--- `Full` comes where a guard has as many pairs as its cap, which it names, and the want of memory only where it has
--- fewer
+-- `Full` comes if a guard has as many pairs as its cap, which it names, and the want of memory only if it has fewer
 abbrev pub FullExactlyAt : ℕ → ℕ → TeachFault → Type 0
 FullExactlyAt cap count (Full named) = (named ≡ cap) × (count ≡ cap)
 FullExactlyAt cap count OutOfMemory = count < cap

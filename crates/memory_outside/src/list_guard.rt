@@ -49,8 +49,8 @@ impl Guard for ListGuard {
 
     ghost asked = { λ guard. guard.asked };
 
-    /// Teaches it one more pair. `Full` comes exactly where it has as many pairs as it can be taught. Else
-    /// it takes the pair, or `OutOfMemory` comes, which leaves it as it was.
+    /// Teaches it one more pair. `Full` comes exactly if it has as many pairs as it can be taught. Else it takes the
+    /// pair, or `OutOfMemory` comes, which leaves it as it was.
     fn teach(&mut self, from: u32, to: u32) -> Result<(), TeachFault>
         ensures below { OnOk result (length self.old.pairs < self.old.cap) }
         ensures full { IfErr result (FullExactlyAt self.old.cap (length self.old.pairs)) }

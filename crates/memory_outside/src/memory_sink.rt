@@ -1,4 +1,4 @@
-//! A sink in memory, which fails where it is told to.
+//! A sink in memory, which fails at given calls.
 
 ghost use Rattle.std.specs.Prelude.{◌≡◌, ◌⊎◌, ◌-◌, ◌<◌, ◌≤◌, ◌↔◌, ◌++◌, [], length, min, take, Contains, Some, IsOk, IsErr, IfOk, OnErr};
 ghost use Rattle.cs_outside.specs.Device.{raised, Rose};
@@ -40,7 +40,7 @@ impl Model for MemSink {
 
 impl MemSink {
     /// A sink that can take `spare` bytes, and has taken memory for them. A call takes at most
-    /// `most` of them, and fails where its number, counted from 1, is one of `fails`.
+    /// `most` of them, and fails if its number, counted from 1, is one of `fails`.
     pub fn of(
         alloc: Global,
         spare: usize,
@@ -89,9 +89,8 @@ impl Sink for MemSink {
 
     ghost faults = { λ sink. sink.faults };
 
-    /// Takes the least of the most bytes of a call, the piece's length and the bytes that it can still
-    /// take. It fails exactly where it was told to and where it can take none, and then takes nothing. It
-    /// takes no memory.
+    /// Takes the least of the most bytes of a call, the piece's length and the bytes that it can still take. It fails
+    /// exactly if its number is one of those that fail or it can take none, and then takes nothing. It takes no memory.
     fn write(&mut self, piece: &[u8]) -> Result<usize, Failed>
         requires { 0 < length piece.now }
 

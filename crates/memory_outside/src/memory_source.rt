@@ -1,4 +1,4 @@
-//! A source in memory, which fails where it is told to.
+//! A source in memory, which fails at given calls.
 
 ghost use Rattle.std.specs.Prelude.{◌≡◌, ◌<◌, ◌≤◌, ◌↔◌, ◌++◌, [], length, min, take, drop, Contains, Some, IsErr, IfOk, OnErr};
 ghost use Rattle.cs_outside.specs.Device.{raised, Rose};
@@ -36,7 +36,7 @@ impl Model for MemSource {
 }
 
 impl MemSource {
-    /// A source of these bytes. A call gives at most `most` of them, and fails where its number,
+    /// A source of these bytes. A call gives at most `most` of them, and fails if its number,
     /// counted from 1, is one of `fails`.
     pub fn of(bytes: Vec<u8>, most: usize, fails: Vec<u64>) -> MemSource
         requires { 0 < most }
@@ -66,7 +66,7 @@ impl Source for MemSource {
     ghost faults = { λ source. source.faults };
 
     /// Gives the least of the most bytes of a call, the buffer's length and what is left. It fails
-    /// exactly where it was told to, and then gives nothing.
+    /// exactly if its number is one of those that fail, and then gives nothing.
     fn read(&mut self, buf: &mut [u8]) -> Result<usize, Failed>
         requires { 0 < length buf.old }
 

@@ -69,7 +69,7 @@ fn three_tasks<R: AllocGlobal + Abort>(rt: &R) -> TaskTable
     table
 }
 
-/// The pid of a task, where there is one.
+/// The pid of a task, if there is one.
 fn pid_of(task: Option<&Task>) -> Option<Pid> {
     task.map(|task| task.spec.pid)
 }
@@ -198,7 +198,7 @@ fn totals_of_tasks(rt: HostRuntime) {
     assert!(rt; matches!(table.remove(3), Some((_, 12))));
 }
 
-/// Expects that the fault is told by this text.
+/// Expects that the fault has this text.
 fn expect_told<R: AllocGlobal + Abort, F: Display>(rt: &R, fault: &F, wanted: &str) {
     let told = format!(in rt.alloc(); "{fault}").expect(rt, "room");
     assert!(rt; told.as_str() == wanted);
@@ -271,7 +271,7 @@ fn no_guards<R: AllocGlobal + Abort>(rt: &R) -> Guards<PairGuard>
     Guards::of(rt.alloc(), Vec::new(rt.alloc())).expect(rt, "room")
 }
 
-/// Whether the caller may access the target, where there are no guards.
+/// Whether the caller may access the target, if there are no guards.
 fn may<R: AllocGlobal + Abort>(rt: &R, caller: &TaskSpec, target: &TaskSpec) -> bool {
     let mut guards = no_guards(rt);
     may_access(caller, target, &mut guards)
@@ -306,7 +306,7 @@ fn parts<R: AllocGlobal + Abort>(rt: &R) -> (TaskTable, CookieRefs)
     (table, refs)
 }
 
-/// The plan of a call of task 1 where no cookie lives yet, how many live then, and the references to
+/// The plan of a call of task 1 if no cookie lives yet, how many live then, and the references to
 /// cookie 1.
 fn planned<R: AllocGlobal + Abort>(rt: &R, ask: Ask) -> (Planned, u16, u32) {
     let (table, mut refs) = parts(rt);
@@ -471,7 +471,7 @@ fn expect_share(
 }
 
 // Of the whole time, of two siblings for two tasks, of one for three rounded down, and of none: under
-// cookie 0, where no sibling is forced idle, and where no time has passed.
+// cookie 0, if no sibling is forced idle, and if no time has passed.
 #[test]
 fn shares_of_an_interval(rt: HostRuntime) {
     expect_share(&rt, 1, 1, 1, 10, Some(10));

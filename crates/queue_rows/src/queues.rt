@@ -150,7 +150,7 @@ fn expect_each_class<L: Ledger, R: AllocGlobal + Abort>(rt: &R, steps: &mut Step
     drop(queue);
 }
 
-/// Expects that a queue of two tasks, which have cookie 7, tells the higher first, and none of another cookie.
+/// Expects that a queue of two tasks, which have cookie 7, finds the higher first, and none of another cookie.
 fn expect_told<L: Ledger, R: Abort>(
     rt: &R,
     queue: &RunQueue,
@@ -182,7 +182,7 @@ fn expect_told<L: Ledger, R: Abort>(
     );
 }
 
-/// Expects of a run queue that it tells the tasks of a cookie, the higher first, until they are taken out.
+/// Expects of a run queue that it finds the tasks of a cookie, the higher first, until they are taken out.
 fn expect_cookies<L: Ledger, R: AllocGlobal + Abort>(rt: &R, steps: &mut Steps<L>) {
     let mut queue = RunQueue::empty(rt.alloc());
     queue.reserve(2).expect(rt, "room");
@@ -196,7 +196,7 @@ fn expect_cookies<L: Ledger, R: AllocGlobal + Abort>(rt: &R, steps: &mut Steps<L
     drop(queue);
 }
 
-/// Expects that a tree of two keys tells them in order.
+/// Expects that a tree of two keys gives them in order.
 fn expect_found<L: Ledger, R: Abort>(
     rt: &R,
     tree: &OrderTree,
@@ -215,7 +215,7 @@ fn expect_found<L: Ledger, R: Abort>(
     assert!(rt; found == [Some((*low, 30)), above, above, above, None] && tree.len() == 2);
 }
 
-/// Expects of a tree that it tells its keys in order, and gives them back.
+/// Expects of a tree that it shows its keys in order, and gives them back.
 fn expect_keys<L: Ledger, R: AllocGlobal + Abort>(rt: &R, steps: &mut Steps<L>) {
     let mut tree = OrderTree::empty(rt.alloc());
     tree.reserve(2).expect(rt, "room");
@@ -240,7 +240,7 @@ fn key(stamp: u64) -> Key
     }
 }
 
-/// Expects that each queue does so. The ledger of the blank is the one in which their steps are counted.
+/// Expects that each queue does so. The ledger of the blank is the one in which their comparisons are counted.
 fn expect_queues<L: Ledger, R: AllocGlobal + Abort>(rt: &R, blank: Blank)
     requires name { blank.name ≡ L.name }
     requires parts { blank.parts ≡ L.parts }

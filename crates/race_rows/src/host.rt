@@ -48,7 +48,7 @@ const CALLS: [&str; 12] = [
     "c0 advance 1000000: Now 1000000\n",
 ];
 
-/// The first lines of sibling 0 behind the wakes.
+/// The first lines of sibling 0 after the wakes.
 const FIRST_TURNS: [&str; 2] = [
     "s0 turn: Plain 30 core 0 forced 0\n",
     "s0 block: Slept 30 Selected 10 core 1 forced 0\n",

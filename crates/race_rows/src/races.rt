@@ -116,7 +116,7 @@ struct Meeting {
 }
 
 impl Meeting {
-    /// Before anybody came.
+    /// Before a worker came.
     fn of_nobody() -> Meeting {
         Meeting {
             first: AtomicU64::new(0),

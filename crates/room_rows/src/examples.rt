@@ -80,14 +80,14 @@ fn expect_core<R: Abort, M: Room>(rt: &R, room: &M) {
     assert!(rt; room.cpu(2).is_none());
 }
 
-/// Whether an entry is one of the end, in which this sibling adopts this task.
+/// Whether an entry is one of the final drain, in which this sibling adopts this task.
 fn is_adoption_at_end(entry: &Entry, cpu: Cpu, run: Pid) -> bool {
     matches!(entry.actor, Actor::End)
         && matches!(entry.event, Event::Resched(other) if other == cpu)
         && matches!(entry.reply, Reply::Picked(pick) if matches!(pick.kind, Kind::Adopted) && pick.run == run)
 }
 
-/// Expects that sibling 1 alone is pending, and has adopted its task at the end.
+/// Expects that sibling 1 alone is pending, and has adopted its task in the final drain.
 fn expect_end<R: Abort, M: Room>(rt: &R, room: &mut M)
     requires { IsPlayable (M.opening room.old).scenario }
 {
@@ -99,7 +99,7 @@ fn expect_end<R: Abort, M: Room>(rt: &R, room: &mut M)
     expect_cpu(rt, room, 1, (2, 7, false));
 }
 
-/// Expects this task behind the pid: its pid, its sibling, its cookie, its total of forced idle and its
+/// Expects this task after the pid: its pid, its sibling, its cookie, its total of forced idle and its
 /// virtual time, both in ns. It is queued or asleep.
 fn expect_task<R: Abort, M: Room>(
     rt: &R,

@@ -34,8 +34,8 @@ pub fn opened(alloc: Global, text: &str) -> Option<(Scenario, CoreState<PairGuar
     Some((scenario, room))
 }
 
-/// The machine of a worked example after all its steps, before the entries of the end. It has no guards. There is none
-/// without memory.
+/// The machine of a worked example after all its steps, before the entries of the final drain. It has no guards. There
+/// is none without memory.
 pub fn played(alloc: Global, script: &Script) -> Option<CoreState<PairGuard>>
     ensures { IfSome result (λ room. IsPlayable room.opening.scenario) }
 {

@@ -117,7 +117,7 @@ fn write_lines<T: Lined, K: Sink>(items: &[T], sink: &mut K) -> Result<(), Faile
     Ok(())
 }
 
-/// Writes the text of the scenario to the sink: each line in one piece, and again with the rest where
+/// Writes the text of the scenario to the sink: each line in one piece, and again with the rest if
 /// the sink took only a part. It takes no memory.
 ///
 /// At an `Err` the sink has failed, and a prefix of the text is written.

@@ -16,5 +16,5 @@ pub record IsScripted (name own : Opening) (history : History) (count : ℕ) (le
   pub scripts : (actor : Actor) → events_by actor history ++ events_in actor left ≡ script name.scenario actor
   -- the entries that are made and the steps that are left are as many as the scenario's steps
   pub counted : length history + length left ≡ length name.scenario.steps
-  -- the room can take what is left, and the entries of the end
+  -- the room can take what is left, and the entries of the final drain
   pub spare : length left + name.scenario.siblings * name.scenario.siblings ≤ count

@@ -13,8 +13,8 @@ abbrev pub IsNextEvent : Opening → Actor → History → Event → Type 0
 IsNextEvent opening actor past event =
     slice_get (script opening.scenario actor) (length (events_by actor past)) ≡ Some event
 
--- A turn appends the actor's next event with the reply that the rules give to it; or the actor has made its whole script,
--- and nothing changes.
+-- A turn appends the actor's next event with the reply that the rules give to it; or the actor has made its whole
+-- script, and nothing changes.
 abbrev pub IsTurn : Opening → Actor → History → History → Turn → Type 0
 IsTurn opening actor past now (Made reply) =
     (event : Event) × IsNextEvent opening actor past event × (reply ≡ reply_to opening past event)

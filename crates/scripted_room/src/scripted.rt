@@ -41,7 +41,8 @@ impl<R: Room, N: Named> Scripted<R, N> {
     /// The room before its first step, with the scripts of its scenario.
     ///
     /// The scenario can be played, and is the room's. The room has the opening that `N` names, and has
-    /// made no step. It can take an entry for each step and, for the end, the square of the siblings.
+    /// made no step. It can take an entry for each step and, for the final drain, the square of the
+    /// siblings.
     pub fn of(alloc: Global, room: R, scenario: &Scenario) -> Result<Scripted<R, N>, OutOfMemory>
         requires playable { IsPlayable scenario.now }
         requires scenario { (R.opening room).scenario ≡ scenario.now }
@@ -60,13 +61,13 @@ impl<R: Room, N: Named> Scripted<R, N> {
     }
 
     /// Makes the actor's next step, and answers the room's reply. It answers `Finished`, and changes
-    /// nothing, exactly where the actor has made its whole script, or has none. It takes no memory.
+    /// nothing, exactly if the actor has made its whole script, or has none. It takes no memory.
     pub fn turn(&mut self, actor: Actor) -> Turn
         ensures turn { IsTurn N.opening actor (R.history self.old) (R.history self.new) result }
         ensures unchanged { result ≡ Finished → self.new ≡ self.old }
         ensures spare { R.spare self.new + count_made result ≡ R.spare self.old }
 
-        // Room is left for each step that is not made yet, and for the entries of the end.
+        // Room is left for each step that is not made yet, and for the entries of the final drain.
         ensures left { length N.opening.scenario.steps + N.opening.scenario.siblings * N.opening.scenario.siblings
             ≤ length (R.history self.new) + R.spare self.new }
 
@@ -86,7 +87,8 @@ impl<R: Room, N: Named> Scripted<R, N> {
         }
     }
 
-    /// The room as it is. It can still take each step that is not made, and the entries of the end.
+    /// The room as it is. It can still take each step that is not made, and the entries of the
+    /// final drain.
     pub fn into_room(self) -> R
         ensures room { result ≡ self }
 

@@ -33,7 +33,7 @@ impl Script {
     }
 }
 
-/// The place of the last script of the actor. `None` where it has none.
+/// The place of the last script of the actor. `None` if it has none.
 fn last_of(scripts: &[Script], actor: Actor) -> Option<usize>
     ensures within { IfSome result (λ k. k < length scripts.now) }
     ensures same { IfSome result (λ k. IfSome (slice_get scripts.now k) (λ script. is_actor script.actor actor ≡ true)) }
@@ -58,7 +58,7 @@ fn has_next(script: &Script, actor: Actor) -> bool
     is_same(script.actor, actor) && script.place < script.events.len()
 }
 
-/// The place of the first script of the actor that is not made to its end. `None` where there is none.
+/// The place of the first script of the actor that is not made to its end. `None` if there is none.
 fn next_of(scripts: &[Script], actor: Actor) -> Option<usize>
     ensures within { IfSome result (λ k. k < length scripts.now) }
     ensures same { IfSome result (λ k. IfSome (slice_get scripts.now k) (λ script. (is_actor script.actor actor ≡ true)
@@ -124,7 +124,7 @@ impl Scripts {
         Ok(Scripts { scripts })
     }
 
-    /// Takes the actor's next event, and moves its place by one. `None` exactly where no step of the actor is left.
+    /// Takes the actor's next event, and moves its place by one. `None` exactly if no step of the actor is left.
     pub(crate) fn next(&mut self, actor: Actor) -> Option<Event>
         ensures some { IfSome result (λ event. (a : Actor) →
             events_in a self.old ≡ events_in a (step_of actor event ∷ []) ++ events_in a self.new) }

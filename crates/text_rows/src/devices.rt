@@ -1,4 +1,4 @@
-//! Sources and sinks: that they move bytes, where they fail, and which errors of the system are no
+//! Sources and sinks: that they move bytes, when they fail, and which errors of the system are no
 //! fault.
 
 ghost use Rattle.std.specs.Prelude.{◌≤◌, IfOk};

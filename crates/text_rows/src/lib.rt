@@ -1,4 +1,4 @@
-//! The line of each entry, and what is written of a scenario. And the devices that texts come from and go to, also where
+//! The line of each entry, and what is written of a scenario. And the devices that texts come from and go to, even if
 //! they fail in mid-stream.
 #![tactic(auto)]
 

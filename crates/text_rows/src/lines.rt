@@ -94,8 +94,8 @@ macro_rules! ended {
     };
 }
 
-/// Entries, each with its line: of wakes, turns, steals, schedules, blocks, exits, ticks, advances, forks, calls,
-/// calls that tell a value, policies, siblings that leave and come back, each error, and guards.
+/// Entries, each with its line: of wakes, turns, tries to steal, schedules, blocks, exits, ticks, advances, forks,
+/// calls, calls that answer with a value, policies, siblings that leave and come back, each error, and guards.
 const LINES: [(Entry, &str); 48] = [
     (
         caller!(0, Event::Wake(1), Reply::Woken(0)),
