@@ -102,7 +102,8 @@ impl<T> BoundedList<T> {
     pub fn get_mut(&mut self, index: usize) -> Option<&mut T>
         ensures* writes_back { sem 𝓛 (LendsItemIf T.row self.entry index result) }
         ensures variant { IsSome result ↔ (index < length self.old.items) }
-        ensures value { IfSome result (λ item. item.now ≡ slice_index_or self.old.items index item.now) }
+        ensures value { IfSome result
+            (λ item. item.now ≡ slice_index_or self.old.items index item.now) }
         ensures item { IsItemAtMut self.old.items index result }
     {
         self.items.get_mut(index)

@@ -67,8 +67,10 @@ impl<'a, T> IntoIterator for &'a BoundedList<T> {
 
     type IntoIter = slice::Iter<'a, T>;
 
-    ghost into_iter_gives = { λ list iter. (iter_rest iter ≡ list.now.items) × (length (iter_rest iter) < 2 ^ 64)
-        × EveryRun (iter_steps {A = T}) (λ run. ItemsMapTo run (λ item. item.now) (iter_rest run.from)) };
+    ghost into_iter_gives = { λ list iter. (iter_rest iter ≡ list.now.items)
+        × (length (iter_rest iter) < 2 ^ 64)
+        × EveryRun (iter_steps {A = T})
+        (λ run. ItemsMapTo run (λ item. item.now) (iter_rest run.from)) };
 
     #[inline(always)]
     fn into_iter(self) -> slice::Iter<'a, T> {
@@ -81,14 +83,18 @@ impl<'a, T> IntoIterator for &'a mut BoundedList<T> {
 
     type IntoIter = slice::IterMut<'a, T>;
 
-    ghost into_iter_gives = { λ list iter. (iter_mut_rest iter ≡ list.now.items) × (length (iter_mut_rest iter) < 2 ^ 64)
-        × EveryRun (iter_mut_steps {A = T}) (λ run. ItemsMapTo run (λ item. item.now) (iter_mut_rest run.from)) };
+    ghost into_iter_gives = { λ list iter. (iter_mut_rest iter ≡ list.now.items)
+        × (length (iter_mut_rest iter) < 2 ^ 64)
+        × EveryRun (iter_mut_steps {A = T})
+        (λ run. ItemsMapTo run (λ item. item.now) (iter_mut_rest run.from)) };
 
     #[inline(always)]
     fn into_iter(self) -> slice::IterMut<'a, T>
         ensures* writes_back { sem 𝓛 (LendsEach T.row self.entry result) }
-        ensures into_iter_gives { (iter_mut_rest result ≡ self.old.items) × (length (iter_mut_rest result) < 2 ^ 64)
-            × EveryRun (iter_mut_steps {A = T}) (λ run. ItemsMapTo run (λ item. item.now) (iter_mut_rest run.from)) }
+        ensures into_iter_gives { (iter_mut_rest result ≡ self.old.items)
+            × (length (iter_mut_rest result) < 2 ^ 64)
+            × EveryRun (iter_mut_steps {A = T})
+            (λ run. ItemsMapTo run (λ item. item.now) (iter_mut_rest run.from)) }
     {
         self.as_mut_slice().iter_mut()
     }

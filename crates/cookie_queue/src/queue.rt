@@ -92,7 +92,8 @@ impl<A> CookieQueue<A> {
     #[inline(always)]
     pub fn take<L: Ledger>(&mut self, task: &Queued, steps: &mut Steps<L>) -> bool
         requires ranked { IsRanked task.now }
-        requires same { IfSome (map.get self.old.tasks (spot_of task.now)) (λ pid. pid ≡ task.now.pid) }
+        requires same { IfSome (map.get self.old.tasks (spot_of task.now))
+            (λ pid. pid ≡ task.now.pid) }
         ensures found { result ≡ map.contains_key self.old.tasks (spot_of task.now) }
         ensures tasks { self.new.tasks ≡ map.remove self.old.tasks (spot_of task.now) }
         ensures spare { self.new.spare ≡ self.old.spare + (if result then 1 else 0) }
@@ -105,9 +106,11 @@ impl<A> CookieQueue<A> {
     #[inline(always)]
     pub fn set_rank<L: Ledger>(&mut self, task: &Queued, rank: u128, steps: &mut Steps<L>)
         requires there { IsTrue (map.contains_key self.old.tasks (spot_of task.now)) }
-        requires free { map.get (map.remove self.old.tasks (spot_of task.now)) (spot_of (record task.now { rank = rank })) ≡ None }
+        requires free { map.get (map.remove self.old.tasks (spot_of task.now))
+            (spot_of (record task.now { rank = rank })) ≡ None }
         ensures tasks { self.new.tasks
-            ≡ map.insert (map.remove self.old.tasks (spot_of task.now)) (spot_of (record task.now { rank = rank })) task.now.pid }
+            ≡ map.insert (map.remove self.old.tasks (spot_of task.now))
+            (spot_of (record task.now { rank = rank })) task.now.pid }
         ensures spare { self.new.spare ≡ self.old.spare }
         ensures counted { steps.new ≤ steps.old + most_comparisons (map.len self.old.tasks)
             + most_comparisons (map.len (map.remove self.old.tasks (spot_of task.now))) }
@@ -125,8 +128,10 @@ impl<A> CookieQueue<A> {
 
     /// Each task gets the rank and the stamp that it has now, with which they stand in the same order.
     pub fn renew<R: Renewal, L: Ledger>(&mut self, renewal: &R, steps: &mut Steps<L>)
-        requires rising { IsTrue (map.is_sorted spot_cmp (list.map (respotted (R.at renewal.now)) (map.entries self.old.tasks))) }
-        ensures entries { map.entries self.new.tasks ≡ list.map (respotted (R.at renewal.now)) (map.entries self.old.tasks) }
+        requires rising { IsTrue (map.is_sorted spot_cmp
+            (list.map (respotted (R.at renewal.now)) (map.entries self.old.tasks))) }
+        ensures entries { map.entries self.new.tasks
+            ≡ list.map (respotted (R.at renewal.now)) (map.entries self.old.tasks) }
         ensures spare { self.new.spare ≡ self.old.spare }
         ensures counted { steps.new ≤ steps.old + most_comparisons (map.len self.old.tasks) }
     {
@@ -140,7 +145,8 @@ impl<A> CookieQueue<A> {
         // If these are the tasks with cookies of some of a room, it is the first of those with the cookie.
         ensures model { (tasks : List Task) → self.now.tasks ≡ spotted (list.map queued_of tasks) →
             All (λ task. priority_of task.spec.policy ≤ 99) tasks → cookie ≢ 0 →
-            result ≡ option_map queued_of (first_of (list.filter (λ task. task.cookie == cookie) tasks)) }
+            result
+            ≡ option_map queued_of (first_of (list.filter (λ task. task.cookie == cookie) tasks)) }
 
         ensures counted { steps.new ≤ steps.old + most_comparisons (map.len self.now.tasks) }
     {
@@ -155,10 +161,12 @@ impl<A> CookieQueue<A> {
 
         // If these are the tasks with cookies of some of a room, it is the first of those with the cookie after the
         // task.
-        ensures model { (tasks : List Task) (above : Task) → self.now.tasks ≡ spotted (list.map queued_of tasks) →
+        ensures model { (tasks : List Task) (above : Task) →
+            self.now.tasks ≡ spotted (list.map queued_of tasks) →
             All (λ task. priority_of task.spec.policy ≤ 99) tasks → task.now ≡ queued_of above →
             priority_of above.spec.policy ≤ 99 → above.cookie ≢ 0 →
-            result ≡ option_map queued_of (first_of (list.filter (λ other. (other.cookie == above.cookie) && goes_before above other) tasks)) }
+            result ≡ option_map queued_of (first_of (list.filter
+            (λ other. (other.cookie == above.cookie) && goes_before above other) tasks)) }
 
         ensures counted { steps.new ≤ steps.old + most_comparisons (map.len self.now.tasks) }
     {

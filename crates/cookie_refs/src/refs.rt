@@ -151,7 +151,8 @@ impl CookieRefs {
         requires few { count_of self.old to < 2 ^ 31 }
         requires own { from ≢ 0 → 0 < count_of self.old from }
         ensures counts { (other : ℕ) →
-            count_of self.new other + references from other ≡ count_of self.old other + references to other }
+            count_of self.new other + references from other
+            ≡ count_of self.old other + references to other }
         ensures next { self.new.next ≡ self.old.next }
         ensures limit { self.new.limit ≡ self.old.limit }
     {
@@ -188,7 +189,8 @@ impl CookieRefs {
 /// Takes out the cookies that ended, if there is no place for one more. The indices of the others are noted anew then.
 fn take_out_ended(cookies: &mut BoundedList<CookieCount>, places: &mut Places)
     ensures items { cookies.new.items ≡
-        (if length cookies.old.items == cookies.old.room then live_of cookies.old.items else cookies.old.items) }
+        (if length cookies.old.items == cookies.old.room
+        then live_of cookies.old.items else cookies.old.items) }
     ensures room { cookies.new.room ≡ cookies.old.room }
     ensures fits { length cookies.new.items ≤ cookies.new.room }
 {

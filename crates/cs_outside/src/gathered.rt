@@ -79,7 +79,8 @@ impl Gathered {
 /// Gives the bytes to the writer until all are given or it fails, and answers how many it took.
 fn give<W: Write>(output: &mut W, bytes: &[u8]) -> usize
     ensures within { result ≤ length bytes.now }
-    ensures given { Appends (W.contents output.old) (W.contents output.new) (take result bytes.now) }
+    ensures given { Appends (W.contents output.old)
+        (W.contents output.new) (take result bytes.now) }
 {
     let mut given = 0;
     while given < bytes.len() {

@@ -35,7 +35,8 @@ impl Model for PairGuard {
 
     ghost view = { λ guard. record { pairs = take guard.count guard.places; asked = guard.asked } };
 
-    ghost invariant = { λ guard. (guard.count ≤ pair_guard_cap) × AreOfLots guard.lots (take guard.count guard.places) };
+    ghost invariant = { λ guard. (guard.count ≤ pair_guard_cap)
+        × AreOfLots guard.lots (take guard.count guard.places) };
 }
 
 /// The lot of the caller with this real user id.
@@ -70,8 +71,10 @@ impl Guard for PairGuard {
     /// and no other `Err` comes.
     fn teach(&mut self, from: u32, to: u32) -> Result<(), TeachFault>
         ensures below { OnOk result (length self.old.pairs < pair_guard_cap) }
-        ensures full { IfErr result (λ fault. (fault ≡ Full pair_guard_cap) × (length self.old.pairs ≡ pair_guard_cap)) }
-        ensures taught { OnOk result (self.new ≡ record self.old { pairs = self.old.pairs ++ (from, to) ∷ [] }) }
+        ensures full { IfErr result (λ fault. (fault ≡ Full pair_guard_cap)
+            × (length self.old.pairs ≡ pair_guard_cap)) }
+        ensures taught { OnOk result (self.new
+            ≡ record self.old { pairs = self.old.pairs ++ (from, to) ∷ [] }) }
         ensures untaught { OnErr result (self.new ≡ self.old) }
     {
         if self.count == MOST_PAIRS {

@@ -10,7 +10,8 @@ use std::io::{ErrorKind, Read, Write};
 /// was interrupted before it took any is made again, up to 2^64 - 1 times.
 pub fn read_some<R: Read>(input: &mut R, buf: &mut [u8]) -> Result<usize, Failed>
     ensures within { IfOk result (λ n. n ≤ length buf.old) }
-    ensures taken { IfOk result (λ n. Consumes (R.remaining input.old) (R.remaining input.new) (take n buf.new)) }
+    ensures taken { IfOk result
+        (λ n. Consumes (R.remaining input.old) (R.remaining input.new) (take n buf.new)) }
     ensures end { IfOk result (λ n. n ≡ 0 → 0 < length buf.old → IsAtEnd (R.remaining input.new)) }
     ensures untaken { OnErr result (Keeps (R.remaining input.old) (R.remaining input.new)) }
 {
@@ -32,7 +33,8 @@ pub fn read_some<R: Read>(input: &mut R, buf: &mut [u8]) -> Result<usize, Failed
 pub fn write_some<W: Write>(output: &mut W, piece: &[u8]) -> Result<usize, Failed>
     ensures some { IfOk result (λ n. 0 < n) }
     ensures within { IfOk result (λ n. n ≤ length piece.now) }
-    ensures appended { IfOk result (λ n. Appends (W.contents output.old) (W.contents output.new) (take n piece.now)) }
+    ensures appended { IfOk result
+        (λ n. Appends (W.contents output.old) (W.contents output.new) (take n piece.now)) }
     ensures unwritten { OnErr result (Keeps (W.contents output.old) (W.contents output.new)) }
 {
     for _ in 0..u64::MAX {

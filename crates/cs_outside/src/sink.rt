@@ -20,7 +20,8 @@ pub trait Sink {
 
         ensures some { IfOk result (λ n. 0 < n) }
         ensures within { IfOk result (λ n. n ≤ length piece.now) }
-        ensures appended { IfOk result (λ n. written self.new ≡ appended (written self.old) (take n piece.now)) }
+        ensures appended { IfOk result
+            (λ n. written self.new ≡ appended (written self.old) (take n piece.now)) }
 
         ensures faultless { OnOk result (faults self.new ≡ faults self.old) }
         ensures failed { OnErr result (Rose (faults self.old) (faults self.new)) }

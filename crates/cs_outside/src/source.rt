@@ -18,7 +18,8 @@ pub trait Source {
         requires { 0 < length buf.old }
 
         ensures within { IfOk result (λ n. n ≤ length buf.old) }
-        ensures taken { IfOk result (λ n. left self.old ≡ prepended (take n buf.new) (left self.new)) }
+        ensures taken { IfOk result
+            (λ n. left self.old ≡ prepended (take n buf.new) (left self.new)) }
 
         // If the bytes are known, 0 is answered only at their end.
         ensures end { IfOk result (λ n. n ≡ 0 → IfSome (left self.old) (λ bytes. bytes ≡ [])) }

@@ -81,9 +81,11 @@ impl Sink for StdSink {
             × (self.new ≡ record self.old { gathered = self.old.gathered ++ piece.now }) }
 
         ensures whole { length piece.now ≤ buffer_bytes → IfOk result (λ n. n ≡ length piece.now) }
-        ensures emptied { buffer_bytes < length self.old.gathered + length piece.now → length piece.now ≤ buffer_bytes
-            → OnOk result (self.new ≡ record self.old { gathered = piece.now }) }
-        ensures long { buffer_bytes < length piece.now → OnOk result (self.new ≡ record self.old { gathered = [] }) }
+        ensures emptied { buffer_bytes < length self.old.gathered + length piece.now →
+            length piece.now ≤ buffer_bytes →
+            OnOk result (self.new ≡ record self.old { gathered = piece.now }) }
+        ensures long { buffer_bytes < length piece.now →
+            OnOk result (self.new ≡ record self.old { gathered = [] }) }
 
         // At an `Err` no byte of the piece is gathered or written.
         ensures kept { OnErr result (IsRest self.old.gathered self.new.gathered) }

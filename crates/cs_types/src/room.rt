@@ -46,7 +46,8 @@ pub trait Room: Drop {
         // A core-wide selection takes a lead than which no queued task is higher, and gives each
         // online sibling only a task with the lead's cookie, or idle.
         ensures selection { IfSome (selection_of result) (λ pick. SelectsCoreWide
-            (scheduling_room (fold_of (opening self.old) (history self.old)) event) (cpu_of event) pick
+            (scheduling_room (fold_of (opening self.old) (history self.old)) event)
+            (cpu_of event) pick
             (fold_of (opening self.new) (history self.new))) }
 
         // A refused event leaves the room as it was but for its entry, and but for the asked counts and a
@@ -60,11 +61,13 @@ pub trait Room: Drop {
     /// one schedules. At most as many are made as the square of the siblings, and `spare` has to be at
     /// least that. It takes no memory, and never tries to steal.
     fn drain(&mut self) -> u64
-        requires spare { (opening self.old).scenario.siblings * (opening self.old).scenario.siblings ≤ spare self.old }
+        requires spare { (opening self.old).scenario.siblings * (opening self.old).scenario.siblings
+            ≤ spare self.old }
 
         ensures entries { IsDrained (opening self.old) (history self.old) (history self.new) }
         ensures count { length (history self.new) ≡ length (history self.old) + result }
-        ensures few { result ≤ (opening self.old).scenario.siblings * (opening self.old).scenario.siblings }
+        ensures few { result
+            ≤ (opening self.old).scenario.siblings * (opening self.old).scenario.siblings }
         ensures spare { spare self.new + result ≡ spare self.old }
         ensures opening { opening self.new ≡ opening self.old }
 
@@ -123,11 +126,13 @@ pub trait Room: Drop {
         // Of what `numbers` and this call show of one room: a turn and a reschedule of the sibling adopt exactly if the
         // pick number is the task number, the sibling's own number is another, and a pick waits for it.
         ensures adoption { let moment = moment_of (opening self.now) (history self.now) in
-            IfSome result (AdoptsByNumbers moment cpu (task_number moment.ledger, pick_number moment.ledger)) };
+            IfSome result
+            (AdoptsByNumbers moment cpu (task_number moment.ledger, pick_number moment.ledger)) };
 
     /// The living task with the least pid above this one. `None` exactly if there is none.
     fn task_after(&self, pid: Pid) -> Option<TaskView>
-        ensures view { result ≡ task_view_after (moment_of (opening self.now) (history self.now)) pid }
+        ensures view { result
+            ≡ task_view_after (moment_of (opening self.now) (history self.now)) pid }
 
         // A virtual time is far below what its type holds.
         ensures bounded { IfSome result (λ task. task.vtime < 2 ^ 80) };
@@ -141,7 +146,8 @@ pub trait Room: Drop {
     /// The guard of this number, from 0 in the order in which they were handed in. `None` exactly if the number is not
     /// below that of the guards handed in.
     fn guard(&self, index: u8) -> Option<GuardView>
-        ensures view { result ≡ guard_view (fold_of (opening self.now) (history self.now)).guards index }
+        ensures view { result
+            ≡ guard_view (fold_of (opening self.now) (history self.now)).guards index }
 
         // A machine has at most 16 guards.
         ensures few { length (fold_of (opening self.now) (history self.now)).guards.all ≤ 16 };
@@ -151,11 +157,14 @@ pub trait Room: Drop {
 
     /// Each sibling is consistent: what it runs and what waits for it is queued on it, and an offline
     /// one does nothing. The premises are what `siblings` and `length` promise.
-    ghost consistent: { (room : Self) → IsPlayable (opening room).scenario → AreEvents (opening room) (history room) →
-        (cpu : ℕ) → cpu < (opening room).scenario.siblings → IsConsistentAt (moment_of (opening room) (history room)) cpu };
+    ghost consistent: { (room : Self) → IsPlayable (opening room).scenario →
+        AreEvents (opening room) (history room) →
+        (cpu : ℕ) → cpu < (opening room).scenario.siblings →
+        IsConsistentAt (moment_of (opening room) (history room)) cpu };
 
     /// The trust rule: an online sibling that is not pending runs idle or a living task with the core
     /// cookie.
-    ghost settled: { (room : Self) → IsPlayable (opening room).scenario → AreEvents (opening room) (history room) →
+    ghost settled: { (room : Self) → IsPlayable (opening room).scenario →
+        AreEvents (opening room) (history room) →
         IsSettled (fold_of (opening room) (history room)) };
 }

@@ -22,5 +22,6 @@ pub trait FromScenario<B: Bench>: Room {
     /// and no later call takes any. The core has 1 to 16 siblings.
     fn from_scenario(alloc: Global, scenario: &Scenario, guards: B) -> Result<Self, OutOfMemory>
         requires { MayStart scenario.now (B.guards guards) }
-        ensures { IfOk result (λ room. HasStarted scenario.now (B.guards guards) (Self.opening room) (Self.history room) (Self.spare room)) };
+        ensures { IfOk result (λ room. HasStarted scenario.now
+            (B.guards guards) (Self.opening room) (Self.history room) (Self.spare room)) };
 }

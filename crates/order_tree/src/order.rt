@@ -159,15 +159,18 @@ impl<A> OrderTree<A> {
     /// Hands over all pids by rising key, each with the stamp of its key. It compares no key.
     pub fn tell_into<M: Movers>(&self, movers: &mut M)
         requires fits { length (M.told movers.old) + map.len self.now.members ≤ 256 }
-        ensures told { M.told movers.new ≡ M.told movers.old ++ list.map stamped (map.entries self.now.members) }
+        ensures told { M.told movers.new
+            ≡ M.told movers.old ++ list.map stamped (map.entries self.now.members) }
     {
         self.tree.tell(movers);
     }
 
     /// Each key gets the rank and the stamp that its pid has now, with which the keys still rise. It compares no key.
     pub fn renew<R: Renewal>(&mut self, renewal: &R)
-        requires rising { IsTrue (map.is_sorted key_cmp (list.map (rekeyed (R.at renewal.now)) (map.entries self.old.members))) }
-        ensures entries { map.entries self.new.members ≡ list.map (rekeyed (R.at renewal.now)) (map.entries self.old.members) }
+        requires rising { IsTrue (map.is_sorted key_cmp
+            (list.map (rekeyed (R.at renewal.now)) (map.entries self.old.members))) }
+        ensures entries { map.entries self.new.members
+            ≡ list.map (rekeyed (R.at renewal.now)) (map.entries self.old.members) }
         ensures spare { self.new.spare ≡ self.old.spare }
     {
         self.tree.renew(renewal);

@@ -124,7 +124,8 @@ impl<A> RankTree<A> {
     )
         requires there { IsTrue (contains_key self.old.members (rank, stamp)) }
         requires free { get (remove self.old.members (rank, stamp)) (later, stamp) ≡ None }
-        ensures members { self.new.members ≡ insert (remove self.old.members (rank, stamp)) (later, stamp) pid }
+        ensures members { self.new.members
+            ≡ insert (remove self.old.members (rank, stamp)) (later, stamp) pid }
         ensures spare { self.new.spare ≡ self.old.spare }
         ensures counted { steps.new ≤ steps.old + most_comparisons (len self.old.members)
             + most_comparisons (len (remove self.old.members (rank, stamp))) }
@@ -144,15 +145,18 @@ impl<A> RankTree<A> {
     /// Hands over each task by its stamp and its pid, in any order.
     pub fn tell_into<M: Movers>(&self, movers: &mut M)
         requires fits { length (M.told movers.old) + len self.now.members ≤ 256 }
-        ensures told { IsPermutation (M.told movers.old ++ map stamped (entries self.now.members)) (M.told movers.new) }
+        ensures told { IsPermutation (M.told movers.old ++ map stamped (entries self.now.members))
+            (M.told movers.new) }
     {
         self.tree.tell_into(movers);
     }
 
     /// Each task gets the rank and the stamp that it has now, with which they stand in the same order.
     pub fn renew<R: Renewal, L: Ledger>(&mut self, renewal: &R, steps: &mut Steps<L>)
-        requires rising { IsTrue (is_sorted key_cmp (map (reranked (R.at renewal.now)) (entries self.old.members))) }
-        ensures entries { entries self.new.members ≡ map (reranked (R.at renewal.now)) (entries self.old.members) }
+        requires rising { IsTrue
+            (is_sorted key_cmp (map (reranked (R.at renewal.now)) (entries self.old.members))) }
+        ensures entries { entries self.new.members
+            ≡ map (reranked (R.at renewal.now)) (entries self.old.members) }
         ensures spare { self.new.spare ≡ self.old.spare }
         ensures counted { steps.new ≤ steps.old + most_comparisons (len self.old.members) }
     {

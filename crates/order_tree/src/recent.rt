@@ -140,8 +140,10 @@ impl<A> RecentTree<A> {
     #[inline(always)]
     pub fn set_rank<L: Ledger>(&mut self, key: &Key, rank: u128, pid: Pid, steps: &mut Steps<L>)
         requires there { IsTrue (map.contains_key self.old.members key.now) }
-        requires free { map.get (map.remove self.old.members key.now) (record key.now { rank = rank }) ≡ None }
-        ensures members { self.new.members ≡ map.insert (map.remove self.old.members key.now) (record key.now { rank = rank }) pid }
+        requires free { map.get (map.remove self.old.members key.now)
+            (record key.now { rank = rank }) ≡ None }
+        ensures members { self.new.members ≡ map.insert
+            (map.remove self.old.members key.now) (record key.now { rank = rank }) pid }
         ensures spare { self.new.spare ≡ self.old.spare }
         ensures counted { steps.new ≤ steps.old + most_comparisons (map.len self.old.members)
             + most_comparisons (map.len (map.remove self.old.members key.now)) }
@@ -170,7 +172,8 @@ impl<A> RecentTree<A> {
     /// Hands over all pids, each with the stamp of its key, in any order. It compares no key.
     pub fn tell_into<M: Movers>(&self, movers: &mut M)
         requires fits { length (M.told movers.old) + map.len self.now.members ≤ 256 }
-        ensures told { IsPermutation (M.told movers.old ++ list.map stamped (map.entries self.now.members)) (M.told movers.new) }
+        ensures told { IsPermutation (M.told movers.old
+            ++ list.map stamped (map.entries self.now.members)) (M.told movers.new) }
     {
         if let Some((key, pid)) = self.recent {
             movers.push((key.stamp, pid));
@@ -180,8 +183,10 @@ impl<A> RecentTree<A> {
 
     /// Each key gets the rank and the stamp that its pid has now, with which the keys still rise.
     pub fn renew<R: Renewal, L: Ledger>(&mut self, renewal: &R, steps: &mut Steps<L>)
-        requires rising { IsTrue (map.is_sorted key_cmp (list.map (rekeyed (R.at renewal.now)) (map.entries self.old.members))) }
-        ensures entries { map.entries self.new.members ≡ list.map (rekeyed (R.at renewal.now)) (map.entries self.old.members) }
+        requires rising { IsTrue (map.is_sorted key_cmp
+            (list.map (rekeyed (R.at renewal.now)) (map.entries self.old.members))) }
+        ensures entries { map.entries self.new.members
+            ≡ list.map (rekeyed (R.at renewal.now)) (map.entries self.old.members) }
         ensures spare { self.new.spare ≡ self.old.spare }
         ensures counted { steps.new ≤ steps.old + most_comparisons (map.len self.old.members) }
     {

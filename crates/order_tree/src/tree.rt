@@ -109,9 +109,11 @@ impl Node {
     /// still rise. A walk so calls no tree that is empty.
     fn renew<R: Renewal>(&mut self, renewal: &R)
         requires even { IsEven self.old }
-        requires rising { IsTrue (is_sorted key_cmp (map (rekeyed (R.at renewal.now)) (under self.old).entries)) }
+        requires rising { IsTrue
+            (is_sorted key_cmp (map (rekeyed (R.at renewal.now)) (under self.old).entries)) }
         ensures even { IsEven self.new }
-        ensures entries { (under self.new).entries ≡ map (rekeyed (R.at renewal.now)) (under self.old).entries }
+        ensures entries { (under self.new).entries
+            ≡ map (rekeyed (R.at renewal.now)) (under self.old).entries }
         ensures height { (under self.new).height ≡ (under self.old).height }
     {
         let Node {
@@ -135,7 +137,9 @@ impl Node {
     #[inline(always)]
     fn first_in<L: Ledger>(&self, group: u64, steps: &mut Steps<L>) -> &Node
         requires own { group ≤ self.now.key.group }
-        ensures found { Some (entry_in result.now) ≡ option_or (list.find (λ entry. reaches true (key_cmp entry.0 (start_of group))) self.now.left.entries) (Some (entry_in self.now)) }
+        ensures found { Some (entry_in result.now) ≡ option_or
+            (list.find (λ entry. reaches true (key_cmp entry.0 (start_of group)))
+            self.now.left.entries) (Some (entry_in self.now)) }
         ensures counted { steps.new ≤ steps.old + self.now.left.height }
     {
         let mut found = self;
@@ -175,7 +179,8 @@ impl Tree {
     fn open(self) -> Option<Parts>
         ensures none { result ≡ None → self.height ≡ 0 }
         ensures shallow { self.height ≤ 2 * digits (length self.entries) }
-        ensures parts { MatchOption result (self.entries ≡ []) (λ parts. IsRoot self parts.left (entry_in parts.node.value) parts.right) }
+        ensures parts { MatchOption result (self.entries ≡ [])
+            (λ parts. IsRoot self parts.left (entry_in parts.node.value) parts.right) }
     {
         let mut node = self.root?;
         let left = mem::replace(&mut node.left, Tree::empty());
@@ -209,7 +214,8 @@ impl Tree {
     /// a loop within a caller keeps the compiler from seeing all that the caller writes.
     #[inline(never)]
     pub fn seek<L: Ledger>(&self, key: &Key, at: bool, steps: &mut Steps<L>) -> Option<&Node>
-        ensures found { entry_at result ≡ list.find (λ entry. reaches at (key_cmp entry.0 key.now)) self.now.entries }
+        ensures found { entry_at result
+            ≡ list.find (λ entry. reaches at (key_cmp entry.0 key.now)) self.now.entries }
         ensures shallow { self.now.height ≤ 2 * digits (length self.now.entries) }
         ensures counted { steps.new ≤ steps.old + self.now.height }
     {
@@ -231,7 +237,8 @@ impl Tree {
     /// or of a greater one it has found none, and from there on it has one, so that neither walk keeps whether it has.
     #[inline(never)]
     pub fn first_in<L: Ledger>(&self, group: u64, steps: &mut Steps<L>) -> Option<&Node>
-        ensures found { entry_at result ≡ list.find (λ entry. reaches true (key_cmp entry.0 (start_of group))) self.now.entries }
+        ensures found { entry_at result ≡ list.find
+            (λ entry. reaches true (key_cmp entry.0 (start_of group))) self.now.entries }
         ensures shallow { self.now.height ≤ 2 * digits (length self.now.entries) }
         ensures counted { steps.new ≤ steps.old + self.now.height }
     {
@@ -252,7 +259,8 @@ impl Tree {
     #[inline(always)]
     pub fn insert<L: Ledger>(&mut self, node: Box<Node>, steps: &mut Steps<L>) -> bool
         requires free { find key_cmp node.value.key self.old.entries ≡ None }
-        ensures entries { self.new.entries ≡ put key_cmp node.value.key node.value.pid self.old.entries }
+        ensures entries { self.new.entries
+            ≡ put key_cmp node.value.key node.value.pid self.old.entries }
         ensures height { self.new.height ≡ self.old.height + (if result then 1 else 0) }
         ensures many_before { HasMany self.old }
         ensures many { HasMany self.new }
@@ -271,8 +279,10 @@ impl Tree {
         requires even { IsEven root.old.value }
         requires free { find key_cmp node.value.key (under root.old.value).entries ≡ None }
         ensures even { IsEven root.new.value }
-        ensures entries { (under root.new.value).entries ≡ put key_cmp node.value.key node.value.pid (under root.old.value).entries }
-        ensures height { (under root.new.value).height ≡ (under root.old.value).height + (if result then 1 else 0) }
+        ensures entries { (under root.new.value).entries
+            ≡ put key_cmp node.value.key node.value.pid (under root.old.value).entries }
+        ensures height { (under root.new.value).height
+            ≡ (under root.old.value).height + (if result then 1 else 0) }
         ensures counted { steps.new ≤ steps.old + (under root.old.value).height }
     {
         let Node {
@@ -349,7 +359,8 @@ impl Tree {
     /// and moves no node.
     #[inline(always)]
     pub fn renew<R: Renewal>(&mut self, renewal: &R)
-        requires rising { IsTrue (is_sorted key_cmp (map (rekeyed (R.at renewal.now)) self.old.entries)) }
+        requires rising { IsTrue
+            (is_sorted key_cmp (map (rekeyed (R.at renewal.now)) self.old.entries)) }
         ensures entries { self.new.entries ≡ map (rekeyed (R.at renewal.now)) self.old.entries }
         ensures height { self.new.height ≡ self.old.height }
     {
@@ -368,7 +379,8 @@ impl Tree {
     ) -> bool
         requires none { taken.old ≡ None }
         ensures entries { self.new.entries ≡ without key.now self.old.entries }
-        ensures taken { option_map (λ node. node.value.pid) taken.new ≡ find key_cmp key.now self.old.entries }
+        ensures taken { option_map (λ node. node.value.pid) taken.new
+            ≡ find key_cmp key.now self.old.entries }
         ensures height { self.old.height ≡ self.new.height + (if result then 1 else 0) }
         ensures many_before { HasMany self.old }
         ensures many { HasMany self.new }

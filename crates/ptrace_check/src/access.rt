@@ -35,7 +35,8 @@ fn is_undumpable(target: &Creds) -> bool
 /// its thread group. It may access another only with CAP_SYS_PTRACE if that is not the same user's, may not be dumped,
 /// or has CAP_SYS_PTRACE itself.
 fn kernel_decision(caller: &TaskSpec, target: &TaskSpec) -> Option<bool>
-    ensures { result ≡ option_map (λ rule. rule.allows) (find (λ rule. rule.decides) (kernel_rules caller.now target.now)) }
+    ensures { result ≡ option_map (λ rule. rule.allows)
+        (find (λ rule. rule.decides) (kernel_rules caller.now target.now)) }
 {
     if caller.tgid == target.tgid {
         return Some(true);
@@ -59,7 +60,8 @@ fn kernel_decision(caller: &TaskSpec, target: &TaskSpec) -> Option<bool>
 pub fn may_access<G: Guard>(caller: &TaskSpec, target: &TaskSpec, guards: &mut Guards<G>) -> bool
     requires asked { All (λ guard. guard.asked < 2 ^ 63) guards.old.guards.all }
     ensures decision { result ≡ may_access guards.old.guards caller.now target.now }
-    ensures asked { guards.new.guards ≡ asked_each guards.old.guards (asked_about guards.old.guards caller.now target.now) }
+    ensures asked { guards.new.guards
+        ≡ asked_each guards.old.guards (asked_about guards.old.guards caller.now target.now) }
     ensures few { length guards.old.guards.active ≤ most_guards }
     ensures caps { guards.new.caps ≡ guards.old.caps }
 {

@@ -34,7 +34,8 @@ impl<G: Guard> Model for Guards<G> {
 
     ghost view = { λ guards. kept guards.seats.items guards.active.items };
 
-    ghost invariant = { λ guards. AreKept (guards_in guards.seats.items guards.active.items) guards.active.room };
+    ghost invariant = { λ guards. AreKept
+        (guards_in guards.seats.items guards.active.items) guards.active.room };
 }
 
 impl<G: Guard> Bench for Guards<G> {
@@ -53,7 +54,8 @@ fn take_out(active: &mut BoundedList<u8>, index: u8)
 fn ask<G: Guard>(seats: &mut BoundedList<Seat<G>>, index: u8, from: u32, to: u32) -> bool
     requires active { IsTrue (is_active (guard_of (guards_in seats.old.items []) index).place) }
     requires count { (guard_of (guards_in seats.old.items []) index).asked < 2 ^ 63 }
-    ensures decision { result ≡ not (refuses (guard_of (guards_in seats.old.items []) index) (from, to)) }
+    ensures decision { result
+        ≡ not (refuses (guard_of (guards_in seats.old.items []) index) (from, to)) }
     ensures asked { guards_in seats.new.items [] ≡ asked_once (guards_in seats.old.items []) index }
     ensures caps { map (λ seat. seat.cap) seats.new.items ≡ map (λ seat. seat.cap) seats.old.items }
 {
@@ -105,8 +107,10 @@ impl<G: Guard> Guards<G> {
     /// target's. `NoGuard` comes exactly if it does not stand on the bench. Only `Taught` changes
     /// anything.
     pub fn teach(&mut self, index: u8, from: u32, to: u32) -> TeachAnswer
-        ensures answer { IsTeachAnswer (guard_of self.old.guards index) (cap_of self.old.caps index) result }
-        ensures taught { self.new.guards ≡ with_guard self.old.guards index (with_answer result (from, to) (guard_of self.old.guards index)) }
+        ensures answer { IsTeachAnswer (guard_of self.old.guards index)
+            (cap_of self.old.caps index) result }
+        ensures taught { self.new.guards ≡ with_guard self.old.guards index
+            (with_answer result (from, to) (guard_of self.old.guards index)) }
         ensures caps { self.new.caps ≡ self.old.caps }
     {
         let Some(seat) = self.seats.get_mut(index as usize) else {
@@ -137,7 +141,8 @@ impl<G: Guard> Guards<G> {
     pub fn unload(&mut self, index: u8) -> UnloadAnswer
         ensures answer { result ≡ unload_answer (guard_of self.old.guards index) }
         ensures guards { self.new.guards ≡ unload self.old.guards index }
-        ensures caps { self.new.caps ≡ slice_set self.old.caps index (cap_without (guard_of self.old.guards index) (cap_of self.old.caps index)) }
+        ensures caps { self.new.caps ≡ slice_set self.old.caps index
+            (cap_without (guard_of self.old.guards index) (cap_of self.old.caps index)) }
     {
         let Some(seat) = self.seats.get_mut(index as usize) else {
             return UnloadAnswer::NoGuard;
@@ -154,9 +159,11 @@ impl<G: Guard> Guards<G> {
     #[inline(always)]
     pub(crate) fn allow(&mut self, from: u32, to: u32) -> bool
         requires asked { All (λ guard. guard.asked < 2 ^ 63) self.old.guards.all }
-        ensures decision { result ≡ list_all (λ index. not (refuses (guard_of self.old.guards index) (from, to))) self.old.guards.active }
-        ensures asked { self.new.guards ≡ asked_each self.old.guards (asked_until (map
-            (λ index. (refuses (guard_of self.old.guards index) (from, to), index ∷ [])) self.old.guards.active)) }
+        ensures decision { result ≡ list_all (λ index.
+            not (refuses (guard_of self.old.guards index) (from, to))) self.old.guards.active }
+        ensures asked { self.new.guards ≡ asked_each self.old.guards (asked_until
+            (map (λ index. (refuses (guard_of self.old.guards index) (from, to), index ∷ []))
+            self.old.guards.active)) }
         ensures caps { self.new.caps ≡ self.old.caps }
     {
         for position in 0..self.active.len() {

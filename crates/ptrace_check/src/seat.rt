@@ -135,7 +135,8 @@ impl<G: Guard> Seat<G> {
         requires active { IsTrue (is_active self.old.guard.place) }
         requires count { self.old.guard.asked < 2 ^ 63 }
         ensures decision { result ≡ not (refuses self.old.guard (from, to)) }
-        ensures asked { self.new.guard ≡ record self.old.guard { asked = self.old.guard.asked + 1 } }
+        ensures asked { self.new.guard
+            ≡ record self.old.guard { asked = self.old.guard.asked + 1 } }
         ensures cap { self.new.cap ≡ self.old.cap }
     {
         let Some(guard) = &mut self.guard else {

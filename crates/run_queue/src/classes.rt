@@ -143,9 +143,11 @@ impl<A> Classes<A> {
         steps: &mut Steps<L>,
     )
         requires there { IsTrue (map.contains_key self.old.tasks (fair_class, (rank, stamp))) }
-        requires free { map.get (map.remove self.old.tasks (fair_class, (rank, stamp))) (fair_class, (later, stamp)) ≡ None }
+        requires free { map.get (map.remove self.old.tasks (fair_class, (rank, stamp)))
+            (fair_class, (later, stamp)) ≡ None }
         ensures tasks { self.new.tasks
-            ≡ map.insert (map.remove self.old.tasks (fair_class, (rank, stamp))) (fair_class, (later, stamp)) pid }
+            ≡ map.insert (map.remove self.old.tasks (fair_class, (rank, stamp)))
+            (fair_class, (later, stamp)) pid }
         ensures spare { self.new.spare ≡ self.old.spare }
         ensures counted { steps.new ≤ steps.old + most_comparisons (map.len self.old.tasks)
             + most_comparisons (map.len (map.remove self.old.tasks (fair_class, (rank, stamp)))) }
@@ -167,7 +169,8 @@ impl<A> Classes<A> {
     /// Hands over each task by its stamp and its pid, in any order.
     pub fn tell_into<M: Movers>(&self, movers: &mut M)
         requires fits { length (M.told movers.old) + map.len self.now.tasks ≤ 256 }
-        ensures told { IsPermutation (M.told movers.old ++ list.map stamped (map.entries self.now.tasks)) (M.told movers.new) }
+        ensures told { IsPermutation (M.told movers.old
+            ++ list.map stamped (map.entries self.now.tasks)) (M.told movers.new) }
     {
         self.stop.tell_into(movers);
         self.deadline.tell_into(movers);
@@ -177,8 +180,10 @@ impl<A> Classes<A> {
 
     /// Each task gets the rank and the stamp that it has now, with which they stand in the same order.
     pub fn renew<R: Renewal, L: Ledger>(&mut self, renewal: &R, steps: &mut Steps<L>)
-        requires rising { IsTrue (map.is_sorted seat_cmp (list.map (reseated (R.at renewal.now)) (map.entries self.old.tasks))) }
-        ensures entries { map.entries self.new.tasks ≡ list.map (reseated (R.at renewal.now)) (map.entries self.old.tasks) }
+        requires rising { IsTrue (map.is_sorted seat_cmp
+            (list.map (reseated (R.at renewal.now)) (map.entries self.old.tasks))) }
+        ensures entries { map.entries self.new.tasks
+            ≡ list.map (reseated (R.at renewal.now)) (map.entries self.old.tasks) }
         ensures spare { self.new.spare ≡ self.old.spare }
         ensures counted { steps.new ≤ steps.old + 4 * most_comparisons (map.len self.old.tasks) }
     {

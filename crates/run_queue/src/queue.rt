@@ -109,8 +109,10 @@ impl<A> RunQueue<A> {
     /// there, and then nothing changes.
     pub fn dequeue<L: Ledger>(&mut self, task: &Queued, steps: &mut Steps<L>) -> bool
         requires ranked { IsRanked task.now }
-        requires same { IfSome (map.get self.old.cookies (spot_of task.now)) (λ pid. pid ≡ task.now.pid) }
-        requires cookie { (cookie : ℕ) → IsTrue (map.contains_key self.old.cookies (cookie, seat_of task.now)) →
+        requires same { IfSome (map.get self.old.cookies (spot_of task.now))
+            (λ pid. pid ≡ task.now.pid) }
+        requires cookie { (cookie : ℕ) →
+            IsTrue (map.contains_key self.old.cookies (cookie, seat_of task.now)) →
             cookie ≡ task.now.cookie }
         ensures found { result ≡ map.contains_key self.old.tasks (seat_of task.now) }
         ensures tasks { self.new.tasks ≡ map.remove self.old.tasks (seat_of task.now) }
@@ -126,8 +128,10 @@ impl<A> RunQueue<A> {
     #[inline(always)]
     fn leave_cookies<L: Ledger>(&mut self, task: &Queued, steps: &mut Steps<L>)
         requires ranked { IsRanked task.now }
-        requires same { IfSome (map.get self.old.cookies (spot_of task.now)) (λ pid. pid ≡ task.now.pid) }
-        requires cookie { (cookie : ℕ) → IsTrue (map.contains_key self.old.cookies (cookie, seat_of task.now)) →
+        requires same { IfSome (map.get self.old.cookies (spot_of task.now))
+            (λ pid. pid ≡ task.now.pid) }
+        requires cookie { (cookie : ℕ) →
+            IsTrue (map.contains_key self.old.cookies (cookie, seat_of task.now)) →
             cookie ≡ task.now.cookie }
         ensures tasks { self.new.tasks ≡ self.old.tasks }
         ensures cookies { self.new.cookies ≡ without task.now self.old.cookies }
@@ -166,11 +170,14 @@ impl<A> RunQueue<A> {
     pub fn set_cookie<L: Ledger>(&mut self, task: &Queued, cookie: Cookie, steps: &mut Steps<L>)
         requires ranked { IsRanked task.now }
         requires there { IsTrue (map.contains_key self.old.tasks (seat_of task.now)) }
-        requires same { IfSome (map.get self.old.cookies (spot_of task.now)) (λ pid. pid ≡ task.now.pid) }
-        requires cookie { (cookie : ℕ) → IsTrue (map.contains_key self.old.cookies (cookie, seat_of task.now)) →
+        requires same { IfSome (map.get self.old.cookies (spot_of task.now))
+            (λ pid. pid ≡ task.now.pid) }
+        requires cookie { (cookie : ℕ) →
+            IsTrue (map.contains_key self.old.cookies (cookie, seat_of task.now)) →
             cookie ≡ task.now.cookie }
         ensures tasks { self.new.tasks ≡ self.old.tasks }
-        ensures cookies { self.new.cookies ≡ including (record task.now { cookie = cookie }) (without task.now self.old.cookies) }
+        ensures cookies { self.new.cookies
+            ≡ including (record task.now { cookie = cookie }) (without task.now self.old.cookies) }
         ensures spare { self.new.spare ≡ self.old.spare }
         ensures counted { steps.new ≤ steps.old + 2 * most_comparisons (map.len self.old.tasks) }
     {
@@ -184,13 +191,18 @@ impl<A> RunQueue<A> {
     pub fn set_fair_rank<L: Ledger>(&mut self, task: &Queued, rank: u128, steps: &mut Steps<L>)
         requires fair { task.now.class ≡ fair_class }
         requires there { IsTrue (map.contains_key self.old.tasks (seat_of task.now)) }
-        requires entered { task.now.cookie ≢ 0 → IsTrue (map.contains_key self.old.cookies (spot_of task.now)) }
-        requires cookie { (cookie : ℕ) → IsTrue (map.contains_key self.old.cookies (cookie, seat_of task.now)) →
+        requires entered { task.now.cookie ≢ 0 →
+            IsTrue (map.contains_key self.old.cookies (spot_of task.now)) }
+        requires cookie { (cookie : ℕ) →
+            IsTrue (map.contains_key self.old.cookies (cookie, seat_of task.now)) →
             cookie ≡ task.now.cookie }
-        requires free { map.get (map.remove self.old.tasks (seat_of task.now)) (seat_of (record task.now { rank = rank })) ≡ None }
+        requires free { map.get (map.remove self.old.tasks (seat_of task.now))
+            (seat_of (record task.now { rank = rank })) ≡ None }
         ensures tasks { self.new.tasks
-            ≡ map.insert (map.remove self.old.tasks (seat_of task.now)) (seat_of (record task.now { rank = rank })) task.now.pid }
-        ensures cookies { self.new.cookies ≡ including (record task.now { rank = rank }) (without task.now self.old.cookies) }
+            ≡ map.insert (map.remove self.old.tasks (seat_of task.now))
+            (seat_of (record task.now { rank = rank })) task.now.pid }
+        ensures cookies { self.new.cookies
+            ≡ including (record task.now { rank = rank }) (without task.now self.old.cookies) }
         ensures spare { self.new.spare ≡ self.old.spare }
         ensures counted { steps.new ≤ steps.old + 2 * most_comparisons (map.len self.old.tasks)
             + 2 * most_comparisons (map.len (map.remove self.old.tasks (seat_of task.now))) }
@@ -215,7 +227,8 @@ impl<A> RunQueue<A> {
     /// Hands over each task by its stamp and its pid, in any order.
     pub fn tell_into<M: Movers>(&self, movers: &mut M)
         requires fits { length (M.told movers.old) + map.len self.now.tasks ≤ 256 }
-        ensures told { IsPermutation (M.told movers.old ++ list.map stamped (map.entries self.now.tasks)) (M.told movers.new) }
+        ensures told { IsPermutation (M.told movers.old
+            ++ list.map stamped (map.entries self.now.tasks)) (M.told movers.new) }
     {
         self.classes.tell_into(movers);
     }
@@ -223,12 +236,20 @@ impl<A> RunQueue<A> {
     /// Each task gets the rank and the stamp that it has now, with which they stand in the same order, and those with
     /// cookies among them are still theirs.
     pub fn renew<R: Renewal, L: Ledger>(&mut self, renewal: &R, steps: &mut Steps<L>)
-        requires rising { IsTrue (map.is_sorted seat_cmp (list.map (reseated (R.at renewal.now)) (map.entries self.old.tasks))) }
-        requires rising_with_cookies { IsTrue (map.is_sorted spot_cmp (list.map (respotted (R.at renewal.now)) (map.entries self.old.cookies))) }
-        requires tied { (tasks : Seats) (cookies : Spots) → map.entries tasks ≡ list.map (reseated (R.at renewal.now)) (map.entries self.old.tasks) →
-            map.entries cookies ≡ list.map (respotted (R.at renewal.now)) (map.entries self.old.cookies) → IsTied tasks cookies }
-        ensures tasks { map.entries self.new.tasks ≡ list.map (reseated (R.at renewal.now)) (map.entries self.old.tasks) }
-        ensures cookies { map.entries self.new.cookies ≡ list.map (respotted (R.at renewal.now)) (map.entries self.old.cookies) }
+        requires rising { IsTrue (map.is_sorted seat_cmp
+            (list.map (reseated (R.at renewal.now)) (map.entries self.old.tasks))) }
+        requires rising_with_cookies { IsTrue (map.is_sorted spot_cmp
+            (list.map (respotted (R.at renewal.now)) (map.entries self.old.cookies))) }
+        requires tied { (tasks : Seats) (cookies : Spots) →
+            map.entries tasks
+            ≡ list.map (reseated (R.at renewal.now)) (map.entries self.old.tasks) →
+            map.entries cookies
+            ≡ list.map (respotted (R.at renewal.now)) (map.entries self.old.cookies) →
+            IsTied tasks cookies }
+        ensures tasks { map.entries self.new.tasks
+            ≡ list.map (reseated (R.at renewal.now)) (map.entries self.old.tasks) }
+        ensures cookies { map.entries self.new.cookies
+            ≡ list.map (respotted (R.at renewal.now)) (map.entries self.old.cookies) }
         ensures spare { self.new.spare ≡ self.old.spare }
         ensures counted { steps.new ≤ steps.old + 5 * most_comparisons (map.len self.old.tasks) }
     {
@@ -257,9 +278,11 @@ impl<A> RunQueue<A> {
         ensures first { result ≡ first_with self.now.cookies cookie }
 
         // If this is the queue of some tasks of a room, it is the first of those with the cookie.
-        ensures model { (tasks : List Task) → self.now.cookies ≡ spotted (list.map queued_of tasks) →
+        ensures model { (tasks : List Task) →
+            self.now.cookies ≡ spotted (list.map queued_of tasks) →
             All (λ task. priority_of task.spec.policy ≤ 99) tasks → cookie ≢ 0 →
-            result ≡ option_map queued_of (first_of (list.filter (λ task. task.cookie == cookie) tasks)) }
+            result
+            ≡ option_map queued_of (first_of (list.filter (λ task. task.cookie == cookie) tasks)) }
 
         ensures counted { steps.new ≤ steps.old + most_comparisons (map.len self.now.tasks) }
     {
@@ -273,10 +296,12 @@ impl<A> RunQueue<A> {
         ensures next { result ≡ next_with self.now.cookies task.now }
 
         // If this is the queue of some tasks of a room, it is the first of those with the cookie after the task.
-        ensures model { (tasks : List Task) (above : Task) → self.now.cookies ≡ spotted (list.map queued_of tasks) →
+        ensures model { (tasks : List Task) (above : Task) →
+            self.now.cookies ≡ spotted (list.map queued_of tasks) →
             All (λ task. priority_of task.spec.policy ≤ 99) tasks → task.now ≡ queued_of above →
             priority_of above.spec.policy ≤ 99 → above.cookie ≢ 0 →
-            result ≡ option_map queued_of (first_of (list.filter (λ other. (other.cookie == above.cookie) && goes_before above other) tasks)) }
+            result ≡ option_map queued_of (first_of (list.filter
+            (λ other. (other.cookie == above.cookie) && goes_before above other) tasks)) }
 
         ensures counted { steps.new ≤ steps.old + most_comparisons (map.len self.now.tasks) }
     {

@@ -37,7 +37,8 @@ pub fn higher(a: &Offer, b: &Offer) -> bool
 
     // The offers of two first tasks stand in the order of those tasks.
     ensures model { (snapshot : ℕ → ℕ) (first second : Option Task) →
-        AreOffersOf snapshot (first ∷ second ∷ []) (a.now ∷ b.now ∷ []) → result ≡ outranks snapshot first second }
+        AreOffersOf snapshot (first ∷ second ∷ []) (a.now ∷ b.now ∷ []) →
+        result ≡ outranks snapshot first second }
 {
     standing_of(a).is_above(&standing_of(b))
 }
@@ -51,7 +52,8 @@ pub fn lead(offers: &[Offer]) -> usize
     ensures first { position (is_highest offers.now) offers.now ≡ Some result }
 
     // The lead of the siblings' offers is at the index of the lead of their first tasks.
-    ensures model { (snapshot : ℕ → ℕ) (firsts : List (Option Task)) → AreOffersOf snapshot firsts offers.now →
+    ensures model { (snapshot : ℕ → ℕ) (firsts : List (Option Task)) →
+        AreOffersOf snapshot firsts offers.now →
         foremost (outranks snapshot) firsts ≡ Some (slice_index_or firsts result None) }
 {
     let mut best = 0;

@@ -29,7 +29,13 @@ pub(crate) struct Entry {
 impl Entry {
     /// The entry of a task in this slot, which was charged nothing.
     pub fn of(spec: &TaskSpec, key: usize) -> Entry
-        ensures { result ≡ record { pid = spec.now.pid; tgid = spec.now.tgid; pgid = spec.now.pgid; key = key; forced = 0 } }
+        ensures { result ≡ record {
+          pid = spec.now.pid;
+          tgid = spec.now.tgid;
+          pgid = spec.now.pgid;
+          key = key;
+          forced = 0;
+        } }
     {
         Entry {
             pid: spec.pid,
@@ -136,7 +142,8 @@ pub(crate) fn is_above_all(entries: &[Entry], pid: Pid) -> bool
 /// may have gone since then.
 fn near(entries: &[Entry], noted: usize, pid: Pid) -> Option<usize>
     ensures within { IfSome result (λ position. position < length entries.now) }
-    ensures at { (tasks : List SomeTask) → IsIndexOf entries.now tasks → Rises tasks → IfSome result (λ position. IsAt pid position tasks) }
+    ensures at { (tasks : List SomeTask) → IsIndexOf entries.now tasks →
+        Rises tasks → IfSome result (λ position. IsAt pid position tasks) }
 {
     let end = entries.len().min(noted);
     for position in (end.saturating_sub(MOST_GONE)..end).rev() {
@@ -153,7 +160,8 @@ fn near(entries: &[Entry], noted: usize, pid: Pid) -> Option<usize>
 #[inline(never)]
 pub(crate) fn position_of(entries: &[Entry], pid: Pid) -> Result<usize, usize>
     ensures { (tasks : List SomeTask) → IsIndexOf entries.now tasks → Rises tasks →
-        MatchResult result (λ position. IsAt pid position tasks) (λ position. IsGap pid position tasks) }
+        MatchResult result (λ position. IsAt pid position tasks)
+        (λ position. IsGap pid position tasks) }
 {
     if is_above_all(entries, pid) {
         return Err(entries.len());
@@ -166,7 +174,8 @@ pub(crate) fn position_of(entries: &[Entry], pid: Pid) -> Result<usize, usize>
 #[inline(never)]
 pub(crate) fn position_by(entries: &[Entry], noted: usize, pid: Pid) -> Result<usize, usize>
     ensures { (tasks : List SomeTask) → IsIndexOf entries.now tasks → Rises tasks →
-        MatchResult result (λ position. IsAt pid position tasks) (λ position. IsGap pid position tasks) }
+        MatchResult result (λ position. IsAt pid position tasks)
+        (λ position. IsGap pid position tasks) }
 {
     match near(entries, noted, pid) {
         Some(position) => Ok(position),
@@ -176,7 +185,8 @@ pub(crate) fn position_by(entries: &[Entry], noted: usize, pid: Pid) -> Result<u
 
 /// Whether the pid is below those of all entries, which rise by pid. So it is when a walk begins.
 fn is_below_all(entries: &[Entry], pid: Pid) -> bool
-    ensures { IsTrue result → (tasks : List SomeTask) → IsIndexOf entries.now tasks → Rises tasks → IsAbove pid 0 tasks }
+    ensures { IsTrue result → (tasks : List SomeTask) →
+        IsIndexOf entries.now tasks → Rises tasks → IsAbove pid 0 tasks }
 {
     match entries.first() {
         Some(first) => pid < first.pid,
@@ -189,7 +199,8 @@ fn is_below_all(entries: &[Entry], pid: Pid) -> bool
 #[cold]
 #[inline(never)]
 pub(crate) fn position_above(entries: &[Entry], noted: usize, pid: Pid) -> usize
-    ensures { (tasks : List SomeTask) → IsIndexOf entries.now tasks → Rises tasks → IsAbove pid result tasks }
+    ensures { (tasks : List SomeTask) → IsIndexOf entries.now tasks →
+        Rises tasks → IsAbove pid result tasks }
 {
     if is_below_all(entries, pid) {
         return 0;

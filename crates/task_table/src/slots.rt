@@ -140,7 +140,8 @@ impl IndexMut<usize> for Slots {
     #[inline(always)]
     fn index_mut(&mut self, key: usize) -> &mut Task
         requires { IsFilled self.old key }
-        ensures* writes_back { sem 𝓛 (Lends the_row task_row self.entry result (with_task self.old key)) }
+        ensures* writes_back { sem 𝓛
+            (Lends the_row task_row self.entry result (with_task self.old key)) }
         ensures value { get self.old key ≡ Some result.now }
     {
         self.all[key].task_mut()

@@ -81,8 +81,10 @@ impl Spans {
     /// A task leaves the group with the number.
     pub fn remove(&mut self, number: u32)
         requires some { (span_at self.old.all.items (place_of number)).count ≢ 0 }
-        ensures { (members : List (ℕ × ℕ)) (position pid : ℕ) → HasMember members position (number, pid) →
-            AreSpans self.old.all.items members → AreSpans self.new.all.items (remove members position) }
+        ensures { (members : List (ℕ × ℕ)) (position pid : ℕ) →
+            HasMember members position (number, pid) →
+            AreSpans self.old.all.items members →
+            AreSpans self.new.all.items (remove members position) }
     {
         self.all[place_of(number)].count -= 1;
     }
@@ -91,7 +93,8 @@ impl Spans {
     pub fn move_between(&mut self, from: u32, to: u32, pid: Pid)
         requires { Counts self.old.all.items from pid }
         ensures { (members : List (ℕ × ℕ)) (position : ℕ) → HasMember members position (from, pid) →
-            AreSpans self.old.all.items members → AreSpans self.new.all.items (slice_set members position (to, pid)) }
+            AreSpans self.old.all.items members →
+            AreSpans self.new.all.items (slice_set members position (to, pid)) }
     {
         self.remove(from);
         self.add(to, pid);

@@ -50,14 +50,16 @@ impl Model for TaskTable {
       limit = table.limit;
     } };
 
-    ghost invariant = { λ table. IsKept table.slots table.entries.items table.threads.all.items table.processes.all.items table.entries.room table.limit
+    ghost invariant = { λ table. IsKept table.slots table.entries.items
+        table.threads.all.items table.processes.all.items table.entries.room table.limit
         (tasks_at table.slots table.entries.items) };
 }
 
 impl TaskTable {
     /// An empty table that can take `limit` tasks. This call alone takes memory.
     pub fn with_limit(alloc: Global, limit: u16) -> Result<TaskTable, OutOfMemory>
-        ensures empty { IfOk result (λ table. table ≡ record { tasks = []; totals = []; limit = limit }) }
+        ensures empty { IfOk result
+            (λ table. table ≡ record { tasks = []; totals = []; limit = limit }) }
         ensures sound { IfOk result IsSound }
     {
         Ok(TaskTable {
@@ -73,7 +75,8 @@ impl TaskTable {
     /// The position of the task with the pid, or the position where it would go.
     #[inline(always)]
     fn position_of(&self, pid: Pid) -> Result<usize, usize>
-        ensures position { MatchResult result (λ position. IsAt pid position self.now.tasks) (λ position. IsGap pid position self.now.tasks) }
+        ensures position { MatchResult result (λ position. IsAt pid position self.now.tasks)
+            (λ position. IsGap pid position self.now.tasks) }
         ensures sound { IsSound self.now }
     {
         match self.noted(pid) {
@@ -169,10 +172,13 @@ impl TaskTable {
     /// The task of the group with the least pid above `after`. `None` exactly if there is none.
     #[inline(always)]
     pub fn next_in(&self, group: Group, after: Pid) -> Option<&Task>
-        ensures next { option_copied result ≡ find (λ task. is_in_group group task && nat_lt after task.spec.pid) self.now.tasks }
+        ensures next { option_copied result
+            ≡ find (λ task. is_in_group group task && nat_lt after task.spec.pid) self.now.tasks }
         ensures rest { MatchOption result (group_above group after self.now.tasks ≡ [])
-            (λ next. group_above group after self.now.tasks ≡ next.now ∷ group_above group next.now.spec.pid self.now.tasks) }
-        ensures there { IfSome result (λ next. find (has_pid next.now.spec.pid) self.now.tasks ≡ Some next.now) }
+            (λ next. group_above group after self.now.tasks
+            ≡ next.now ∷ group_above group next.now.spec.pid self.now.tasks) }
+        ensures there { IfSome result
+            (λ next. find (has_pid next.now.spec.pid) self.now.tasks ≡ Some next.now) }
         ensures sound { IsSound self.now }
     {
         self.members_from(group, self.position_above(after), self.entries.len())
@@ -182,7 +188,8 @@ impl TaskTable {
     /// The task with the least pid above `after`, and what it was charged for forced idle, in ns. `None` exactly if
     /// there is none.
     pub fn next_charged(&self, after: Pid) -> Option<(&Task, u64)>
-        ensures next { option_map (λ next. next.0.now) result ≡ find (λ task. nat_lt after task.spec.pid) self.now.tasks }
+        ensures next { option_map (λ next. next.0.now) result
+            ≡ find (λ task. nat_lt after task.spec.pid) self.now.tasks }
         ensures total { IfSome result (λ next. next.1 ≡ total_in self.now next.0.now.spec.pid) }
         ensures sound { IsSound self.now }
     {
@@ -195,7 +202,8 @@ impl TaskTable {
     #[inline(always)]
     fn span_of(&self, group: Group) -> Span
         ensures count { length (filter (is_in_group group) self.now.tasks) ≤ result.count }
-        ensures least { AllByRecursion (λ task. IsTrue (is_in_group group task) → result.least ≤ task.spec.pid) self.now.tasks }
+        ensures least { AllByRecursion (λ task. IsTrue (is_in_group group task) →
+            result.least ≤ task.spec.pid) self.now.tasks }
     {
         match group {
             Group::All => Span {
@@ -227,7 +235,8 @@ impl TaskTable {
 
     /// A pid below those of all tasks of the group, or 0: a walk over the group can begin with the next one above it.
     pub fn below(&self, group: Group) -> Pid
-        ensures members { group_above group result self.now.tasks ≡ group_above group 0 self.now.tasks }
+        ensures members { group_above group result self.now.tasks
+            ≡ group_above group 0 self.now.tasks }
     {
         self.span_of(group).least.saturating_sub(1)
     }

@@ -27,7 +27,8 @@ impl<'a> Model for Tasks<'a> {
 
     ghost Value = { List SomeTask };
 
-    ghost view = { λ left. filter (is_in_group left.group) (tasks_at left.slots.now left.entries.now) };
+    ghost view = { λ left. filter (is_in_group left.group)
+        (tasks_at left.slots.now left.entries.now) };
 
     ghost invariant = { λ left. IsWalk left.slots.now left.entries.now left.group left.most };
 }

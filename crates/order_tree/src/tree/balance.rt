@@ -92,9 +92,12 @@ fn hang(place: &mut Tree, node: Box<Node>)
 #[inline(always)]
 fn spread(middle: &mut Box<Node>, mut low: Box<Node>, mut high: Box<Node>)
     requires lacking { (low.value.right.entries ≡ []) × (high.value.left.entries ≡ []) }
-    requires sides { CanSpread low.value.left (entry_in low.value) middle.old.value (entry_in high.value) high.value.right }
+    requires sides { CanSpread low.value.left (entry_in low.value) middle.old.value
+        (entry_in high.value) high.value.right }
     ensures even { IsEven middle.new.value }
-    ensures tree { under middle.new.value ≡ over (over low.value.left (entry_in low.value) middle.old.value.left) (entry_in middle.old.value) (over middle.old.value.right (entry_in high.value) high.value.right) }
+    ensures tree { under middle.new.value ≡ over
+        (over low.value.left (entry_in low.value) middle.old.value.left) (entry_in middle.old.value)
+        (over middle.old.value.right (entry_in high.value) high.value.right) }
 {
     let top = &mut **middle;
     let below = &mut *low;
@@ -112,10 +115,13 @@ fn spread(middle: &mut Box<Node>, mut low: Box<Node>, mut high: Box<Node>)
 #[inline(always)]
 fn raise_right(root: &mut Box<Node>, upper: Box<Node>, upper_lean: Ordering, lower_lean: Ordering)
     requires lacking { root.old.value.left.entries ≡ [] }
-    requires below { IsLeaning upper.value.right (entry_in root.old.value) root.old.value.right lower_lean }
-    requires above { IsLeaning upper.value.left (entry_in upper.value) (over upper.value.right (entry_in root.old.value) root.old.value.right) upper_lean }
+    requires below { IsLeaning upper.value.right
+        (entry_in root.old.value) root.old.value.right lower_lean }
+    requires above { IsLeaning upper.value.left (entry_in upper.value)
+        (over upper.value.right (entry_in root.old.value) root.old.value.right) upper_lean }
     ensures even { IsEven root.new.value }
-    ensures tree { under root.new.value ≡ over upper.value.left (entry_in upper.value) (over upper.value.right (entry_in root.old.value) root.old.value.right) }
+    ensures tree { under root.new.value ≡ over upper.value.left (entry_in upper.value)
+        (over upper.value.right (entry_in root.old.value) root.old.value.right) }
 {
     let mut lower = mem::replace(root, upper);
     let top = &mut **root;
@@ -130,10 +136,13 @@ fn raise_right(root: &mut Box<Node>, upper: Box<Node>, upper_lean: Ordering, low
 #[inline(always)]
 fn raise_left(root: &mut Box<Node>, upper: Box<Node>, upper_lean: Ordering, lower_lean: Ordering)
     requires lacking { root.old.value.right.entries ≡ [] }
-    requires below { IsLeaning root.old.value.left (entry_in root.old.value) upper.value.left lower_lean }
-    requires above { IsLeaning (over root.old.value.left (entry_in root.old.value) upper.value.left) (entry_in upper.value) upper.value.right upper_lean }
+    requires below { IsLeaning root.old.value.left
+        (entry_in root.old.value) upper.value.left lower_lean }
+    requires above { IsLeaning (over root.old.value.left (entry_in root.old.value) upper.value.left)
+        (entry_in upper.value) upper.value.right upper_lean }
     ensures even { IsEven root.new.value }
-    ensures tree { under root.new.value ≡ over (over root.old.value.left (entry_in root.old.value) upper.value.left) (entry_in upper.value) upper.value.right }
+    ensures tree { under root.new.value ≡ over (over root.old.value.left
+        (entry_in root.old.value) upper.value.left) (entry_in upper.value) upper.value.right }
 {
     let mut lower = mem::replace(root, upper);
     let top = &mut **root;
@@ -151,7 +160,8 @@ pub fn lean_left(root: &mut Box<Node>) -> bool
     requires tilted { TiltsLeft root.old.value }
     ensures even { IsEven root.new.value }
     ensures entries { (under root.new.value).entries ≡ (under root.old.value).entries }
-    ensures height { (under root.new.value).height ≡ left_levels root.old.value + (if result then 1 else 0) }
+    ensures height { (under root.new.value).height
+        ≡ left_levels root.old.value + (if result then 1 else 0) }
 {
     let node = &mut **root;
     match node.lean {
@@ -173,7 +183,8 @@ pub fn lean_right(root: &mut Box<Node>) -> bool
     requires tilted { TiltsRight root.old.value }
     ensures even { IsEven root.new.value }
     ensures entries { (under root.new.value).entries ≡ (under root.old.value).entries }
-    ensures height { (under root.new.value).height ≡ right_levels root.old.value + (if result then 1 else 0) }
+    ensures height { (under root.new.value).height
+        ≡ right_levels root.old.value + (if result then 1 else 0) }
 {
     let node = &mut **root;
     match node.lean {
@@ -196,7 +207,8 @@ fn turn_right(root: &mut Box<Node>) -> bool
     requires high { IsHighLeft root.old.value }
     ensures even { IsEven root.new.value }
     ensures entries { (under root.new.value).entries ≡ (under root.old.value).entries }
-    ensures height { (under root.new.value).height ≡ left_levels root.old.value + (if result then 1 else 0) }
+    ensures height { (under root.new.value).height
+        ≡ left_levels root.old.value + (if result then 1 else 0) }
 {
     let Some(mut upper) = take_root(&mut root.left) else {
         unreachable!()
@@ -228,7 +240,8 @@ fn turn_left(root: &mut Box<Node>) -> bool
     requires high { IsHighRight root.old.value }
     ensures even { IsEven root.new.value }
     ensures entries { (under root.new.value).entries ≡ (under root.old.value).entries }
-    ensures height { (under root.new.value).height ≡ right_levels root.old.value + (if result then 1 else 0) }
+    ensures height { (under root.new.value).height
+        ≡ right_levels root.old.value + (if result then 1 else 0) }
 {
     let Some(mut upper) = take_root(&mut root.right) else {
         unreachable!()

@@ -47,10 +47,14 @@ fn regroup(entry: &mut Entry, threads: &mut Spans, processes: &mut Spans, spec: 
     requires threads { Counts threads.old.all.items entry.old.tgid entry.old.pid }
     requires processes { Counts processes.old.all.items entry.old.pgid entry.old.pid }
     ensures entry { entry.new ≡ record entry.old { tgid = spec.now.tgid; pgid = spec.now.pgid } }
-    ensures threads { (members : List (ℕ × ℕ)) (position : ℕ) → HasMember members position (entry.old.tgid, entry.old.pid) →
-        AreSpans threads.old.all.items members → AreSpans threads.new.all.items (slice_set members position (spec.now.tgid, entry.old.pid)) }
-    ensures processes { (members : List (ℕ × ℕ)) (position : ℕ) → HasMember members position (entry.old.pgid, entry.old.pid) →
-        AreSpans processes.old.all.items members → AreSpans processes.new.all.items (slice_set members position (spec.now.pgid, entry.old.pid)) }
+    ensures threads { (members : List (ℕ × ℕ)) (position : ℕ) →
+        HasMember members position (entry.old.tgid, entry.old.pid) →
+        AreSpans threads.old.all.items members →
+        AreSpans threads.new.all.items (slice_set members position (spec.now.tgid, entry.old.pid)) }
+    ensures processes { (members : List (ℕ × ℕ)) (position : ℕ) →
+        HasMember members position (entry.old.pgid, entry.old.pid) →
+        AreSpans processes.old.all.items members → AreSpans processes.new.all.items
+        (slice_set members position (spec.now.pgid, entry.old.pid)) }
 {
     if entry.tgid == spec.tgid && entry.pgid == spec.pgid {
         return;
@@ -65,8 +69,10 @@ fn regroup(entry: &mut Entry, threads: &mut Spans, processes: &mut Spans, spec: 
 /// read where these stand is a cost of its own, and only a search needs it.
 #[inline(always)]
 fn slot_of(slots: &Slots, entries: &BoundedList<Entry>, places: &Places, pid: Pid) -> Option<usize>
-    ensures { (threads processes : List SomeSpan) (room limit : ℕ) (tasks : List SomeTask) → IsKept slots.now entries.now.items threads processes room limit tasks →
-        MatchOption result (find (has_pid pid) tasks ≡ None) (λ key. IsSlotOf key pid entries.now.items tasks) }
+    ensures { (threads processes : List SomeSpan) (room limit : ℕ) (tasks : List SomeTask) →
+        IsKept slots.now entries.now.items threads processes room limit tasks →
+        MatchOption result (find (has_pid pid) tasks ≡ None)
+        (λ key. IsSlotOf key pid entries.now.items tasks) }
 {
     let key = places.slot_of(pid);
     match slots.get(key) {
@@ -81,7 +87,8 @@ fn slot_of(slots: &Slots, entries: &BoundedList<Entry>, places: &Places, pid: Pi
 #[inline(never)]
 fn searched(entries: &[Entry], pid: Pid) -> Option<usize>
     ensures { (tasks : List SomeTask) → IsIndexOf entries.now tasks → Rises tasks →
-        MatchOption result (find (has_pid pid) tasks ≡ None) (λ key. IsSlotOf key pid entries.now tasks) }
+        MatchOption result (find (has_pid pid) tasks ≡ None)
+        (λ key. IsSlotOf key pid entries.now tasks) }
 {
     let Ok(position) = position_of(entries, pid) else {
         return None;
@@ -94,8 +101,10 @@ impl TaskTable {
     /// `Full` exactly if the table has as many tasks as its limit. An `Err` changes nothing.
     pub fn add(&mut self, spec: TaskSpec) -> Result<(), AddFault>
         ensures answer { result ≡ add_answer self.old spec }
-        ensures added { OnOk result (self.new ≡
-            record self.old { tasks = inserted (asleep spec) self.old.tasks; totals = self.new.totals }) }
+        ensures added { OnOk result (self.new ≡ record self.old {
+          tasks = inserted (asleep spec) self.old.tasks;
+          totals = self.new.totals;
+        }) }
         ensures totals { (pid : ℕ) → total_in self.new pid ≡ total_in self.old pid }
         ensures unchanged { OnErr result (self.new ≡ self.old) }
         ensures sound { IsSound self.new }
@@ -114,8 +123,10 @@ impl TaskTable {
     fn insert(&mut self, position: usize, spec: TaskSpec) -> Result<(), AddFault>
         requires { IsGap spec.pid position self.old.tasks }
         ensures answer { result ≡ add_answer self.old spec }
-        ensures added { OnOk result (self.new ≡
-            record self.old { tasks = inserted (asleep spec) self.old.tasks; totals = self.new.totals }) }
+        ensures added { OnOk result (self.new ≡ record self.old {
+          tasks = inserted (asleep spec) self.old.tasks;
+          totals = self.new.totals;
+        }) }
         ensures totals { (pid : ℕ) → total_in self.new pid ≡ total_in self.old pid }
         ensures unchanged { OnErr result (self.new ≡ self.old) }
         ensures sound { IsSound self.new }
@@ -152,7 +163,9 @@ impl TaskTable {
     #[inline(always)]
     pub fn change(&mut self, task: Task) -> Option<Task>
         ensures old { result ≡ find (has_pid task.spec.pid) self.old.tasks }
-        ensures changed { self.new ≡ record self.old { tasks = map (λ other. if has_pid task.spec.pid other then task else other) self.old.tasks } }
+        ensures changed { self.new ≡ record self.old {
+          tasks = map (λ other. if has_pid task.spec.pid other then task else other) self.old.tasks;
+        } }
         ensures absent { IfNone result (self.new ≡ self.old) }
         ensures sound { IsSound self.new }
     {
@@ -172,7 +185,9 @@ impl TaskTable {
     #[inline(never)]
     fn change_groups(&mut self, task: Task) -> Option<Task>
         ensures old { result ≡ find (has_pid task.spec.pid) self.old.tasks }
-        ensures changed { self.new ≡ record self.old { tasks = map (λ other. if has_pid task.spec.pid other then task else other) self.old.tasks } }
+        ensures changed { self.new ≡ record self.old {
+          tasks = map (λ other. if has_pid task.spec.pid other then task else other) self.old.tasks;
+        } }
         ensures absent { IfNone result (self.new ≡ self.old) }
         ensures sound { IsSound self.new }
     {
@@ -191,7 +206,9 @@ impl TaskTable {
     /// The task with the pid, if there is one, is edited. Nothing else changes.
     #[inline(always)]
     fn edit(&mut self, pid: Pid, edit: Edit)
-        ensures edited { self.new ≡ record self.old { tasks = map (λ task. if has_pid pid task then edited edit task else task) self.old.tasks } }
+        ensures edited { self.new ≡ record self.old {
+          tasks = map (λ task. if has_pid pid task then edited edit task else task) self.old.tasks;
+        } }
         ensures sound { IsSound self.new }
     {
         let noted = self.places.slot_of(pid);
@@ -209,7 +226,8 @@ impl TaskTable {
     #[inline(always)]
     pub fn remember(&mut self, pid: Pid, occupation: u8)
         ensures remembered { self.new ≡ record self.old {
-          tasks = map (λ (task : SomeTask). if has_pid pid task then record task { occupation = occupation } else task) self.old.tasks;
+          tasks = map (λ (task : SomeTask). if has_pid pid task
+              then record task { occupation = occupation } else task) self.old.tasks;
         } }
         ensures sound { IsSound self.new }
     {
@@ -219,7 +237,8 @@ impl TaskTable {
     /// The task with the pid, if there is one, has this cookie. Nothing else changes.
     pub fn give_cookie(&mut self, pid: Pid, cookie: Cookie)
         ensures given { self.new ≡ record self.old {
-          tasks = map (λ (task : SomeTask). if has_pid pid task then record task { cookie = cookie } else task) self.old.tasks;
+          tasks = map (λ (task : SomeTask). if has_pid pid task
+              then record task { cookie = cookie } else task) self.old.tasks;
         } }
         ensures sound { IsSound self.new }
     {
@@ -232,7 +251,9 @@ impl TaskTable {
     #[inline(always)]
     pub fn move_to(&mut self, pids: &[Pid], home: Cpu, from: u128, to: u128, first: u64)
         requires { first + length pids.now < 2 ^ 64 }
-        ensures moved { self.new ≡ record self.old { tasks = with_first_moved (length pids.now) pids.now home from to first self.old.tasks } }
+        ensures moved { self.new ≡ record self.old {
+          tasks = with_first_moved (length pids.now) pids.now home from to first self.old.tasks;
+        } }
     {
         let mut stamp = first;
         for pid in pids.iter() {
@@ -253,7 +274,8 @@ impl TaskTable {
     #[inline(always)]
     pub fn set_vtime(&mut self, pid: Pid, vtime: u128)
         ensures given { self.new ≡ record self.old {
-          tasks = map (λ (task : SomeTask). if has_pid pid task then record task { vtime = vtime } else task) self.old.tasks;
+          tasks = map (λ (task : SomeTask). if has_pid pid task
+              then record task { vtime = vtime } else task) self.old.tasks;
         } }
         ensures sound { IsSound self.new }
     {
@@ -264,7 +286,8 @@ impl TaskTable {
     #[inline(always)]
     pub fn set_used(&mut self, pid: Pid, used: u64)
         ensures given { self.new ≡ record self.old {
-          tasks = map (λ (task : SomeTask). if has_pid pid task then record task { used = used } else task) self.old.tasks;
+          tasks = map (λ (task : SomeTask). if has_pid pid task
+              then record task { used = used } else task) self.old.tasks;
         } }
         ensures sound { IsSound self.new }
     {
@@ -275,7 +298,8 @@ impl TaskTable {
     #[inline(always)]
     pub fn put_to_sleep(&mut self, pid: Pid)
         ensures asleep { self.new ≡ record self.old {
-          tasks = map (λ (task : SomeTask). if has_pid pid task then record task { queued = false } else task) self.old.tasks;
+          tasks = map (λ (task : SomeTask). if has_pid pid task
+              then record task { queued = false } else task) self.old.tasks;
         } }
         ensures sound { IsSound self.new }
     {
@@ -287,7 +311,13 @@ impl TaskTable {
     #[inline(always)]
     pub fn queue_up(&mut self, pid: Pid, cpu: Cpu, vtime: u128, deadline: u64, stamp: u64)
         ensures queued { self.new ≡ record self.old {
-          tasks = map (λ (task : SomeTask). if has_pid pid task then record task { home = cpu; queued = true; vtime = vtime; deadline = deadline; stamp = stamp } else task) self.old.tasks;
+          tasks = map (λ (task : SomeTask). if has_pid pid task then record task {
+            home = cpu;
+            queued = true;
+            vtime = vtime;
+            deadline = deadline;
+            stamp = stamp;
+          } else task) self.old.tasks;
         } }
         ensures sound { IsSound self.new }
     {
@@ -306,10 +336,14 @@ impl TaskTable {
     /// there is none, and then nothing changes.
     #[inline(always)]
     pub fn remove(&mut self, pid: Pid) -> Option<(Task, u64)>
-        ensures task { result ≡ option_map (λ task. (task, total_in self.old pid)) (find (has_pid pid) self.old.tasks) }
-        ensures removed { self.new ≡
-            record self.old { tasks = filter (λ task. not (has_pid pid task)) self.old.tasks; totals = self.new.totals } }
-        ensures totals { (other : ℕ) → total_in self.new other ≡ (if other == pid then 0 else total_in self.old other) }
+        ensures task { result ≡ option_map
+            (λ task. (task, total_in self.old pid)) (find (has_pid pid) self.old.tasks) }
+        ensures removed { self.new ≡ record self.old {
+          tasks = filter (λ task. not (has_pid pid task)) self.old.tasks;
+          totals = self.new.totals;
+        } }
+        ensures totals { (other : ℕ) →
+            total_in self.new other ≡ (if other == pid then 0 else total_in self.old other) }
         ensures absent { IfNone result (self.new ≡ self.old) }
         ensures before { IsSound self.old }
         ensures sound { IsSound self.new }
