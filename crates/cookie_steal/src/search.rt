@@ -35,7 +35,8 @@ fn first_with<Q: SiblingQueue, L: Ledger>(
 ) -> Option<Task>
     requires { MayFind (Q.holds lane.now.queue) cpu table.now cookie }
     ensures answer { result ≡ first_of (with_cookie cookie (queued_among table.now.tasks cpu)) }
-    ensures counted { steps.new ≤ steps.old + Q.most_compared (length (queued_among table.now.tasks cpu)) }
+    ensures counted { steps.new ≤ steps.old
+        + Q.most_compared (length (queued_among table.now.tasks cpu)) }
 {
     let first = lane.queue.first_with(cookie, table, cpu, steps)?;
     task_of(table, first.pid)
@@ -53,8 +54,10 @@ fn first_to_steal<Q: SiblingQueue, L: Ledger>(
     requires cookie { core.now.cookie ≢ 0 }
     requires source { IsSourceOf thief source (core.now, table.now) }
     ensures first { (beside : Beside) → let room = room_of beside (core.now, table.now) in
-        result ≡ first_of (filter (may_steal (sibling_of room thief) (sibling_of room source)) (queued_with room room.core_cookie source)) }
-    ensures counted { ComparesFor (length table.now.tasks + 1) (core.now, table.now) steps.old steps.new }
+        result ≡ first_of (filter (may_steal (sibling_of room thief) (sibling_of room source))
+        (queued_with room room.core_cookie source)) }
+    ensures counted { ComparesFor (length table.now.tasks + 1)
+        (core.now, table.now) steps.old steps.new }
 {
     let idle = &core.lanes[thief as usize];
     let from = &core.lanes[source as usize];
@@ -79,8 +82,10 @@ pub fn stolen<Q: SiblingQueue, L: Ledger>(
     steps: &mut Steps<L>,
 ) -> Option<Task>
     requires { IsSourceOf thief source (core.now, table.now) }
-    ensures stolen { (beside : Beside) → result ≡ stolen (room_of beside (core.now, table.now)) thief }
-    ensures counted { ComparesFor (length table.now.tasks + 1) (core.now, table.now) steps.old steps.new }
+    ensures stolen { (beside : Beside) →
+        result ≡ stolen (room_of beside (core.now, table.now)) thief }
+    ensures counted { ComparesFor (length table.now.tasks + 1)
+        (core.now, table.now) steps.old steps.new }
 {
     if core.cookie == 0 || core.lanes[thief as usize].run.is_some() {
         return None;

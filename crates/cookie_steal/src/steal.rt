@@ -32,7 +32,8 @@ pub enum Try {
 /// The sibling from which this one tries to steal next.
 fn source_of<Q: SiblingQueue>(core: &Core<Q>, cpu: Cpu) -> Cpu
     requires cpu { cpu < length core.now.lanes.items }
-    ensures source { (beside : Beside) (table : Table) → result ≡ source_of (room_of beside (core.now, table)) cpu }
+    ensures source { (beside : Beside) (table : Table) →
+        result ≡ source_of (room_of beside (core.now, table)) cpu }
     ensures within { result < length core.now.lanes.items }
 {
     let place = core.lanes[cpu as usize].place as usize;
@@ -48,7 +49,8 @@ fn is_left_idle<Q: SiblingQueue, L: Ledger>(
 ) -> bool
     requires { AgreesAt cpu (core.now, table.now) }
     ensures idle { (beside : Beside) → let room = room_of beside (core.now, table.now) in
-        result ≡ (is_none (first_on room cpu) && is_none (sibling_of room cpu).run && not (room.forced == 0)) }
+        result ≡ (is_none (first_on room cpu) && is_none (sibling_of room cpu).run
+        && not (room.forced == 0)) }
     ensures counted { ComparesFor 1 (core.now, table.now) steps.old steps.new }
 {
     core.first_on(table, cpu, steps).is_none()
@@ -66,7 +68,8 @@ fn steal<Q: SiblingQueue, L: Ledger>(
     steps: &mut Steps<L>,
 )
     requires { MaySteal thief source (core.old, table.old) task }
-    ensures touches { Touches 2 (core.old, table.old) (core.new, table.new) (λ room. steal room thief task) }
+    ensures touches { Touches 2 (core.old, table.old) (core.new, table.new)
+        (λ room. steal room thief task) }
     ensures counted { ComparesFor 3 (core.old, table.old) steps.old steps.new }
 {
     let moved = core.moved_to(thief, task);
@@ -82,7 +85,8 @@ fn steal<Q: SiblingQueue, L: Ledger>(
 fn next_place<Q: SiblingQueue>(core: &Core<Q>, cpu: Cpu) -> u32
     requires cpu { cpu < length core.now.lanes.items }
     requires places { All (λ lane. lane.place + 1 < 2 ^ 32) core.now.lanes.items }
-    ensures { (beside : Beside) (table : Table) → result ≡ next_place (room_of beside (core.now, table)) cpu }
+    ensures { (beside : Beside) (table : Table) →
+        result ≡ next_place (room_of beside (core.now, table)) cpu }
 {
     let next = core.lanes[cpu as usize].place + 1;
     if next as usize == core.lanes.len() {
@@ -102,7 +106,8 @@ pub fn try_steal<Q: SiblingQueue, L: Ledger>(
 ) -> Try
     requires { MayTry cpu (core.old, table.old) }
     ensures tries { TriesToSteal (core.old, table.old) (core.new, table.new) cpu result }
-    ensures counted { ComparesFor (length table.old.tasks + 4) (core.old, table.old) steps.old steps.new }
+    ensures counted { ComparesFor (length table.old.tasks + 4)
+        (core.old, table.old) steps.old steps.new }
 {
     if core.lanes[cpu as usize].place == 0 {
         return Try::NoBalance;

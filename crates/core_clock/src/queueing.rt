@@ -17,7 +17,8 @@ use task_table::TaskTable;
 /// The lowest sibling that is online.
 fn lowest_online<Q: SiblingQueue>(core: &Core<Q>) -> Cpu
     requires some { 0 < length core.now.lanes.items }
-    ensures lowest { (beside : Beside) (table : Table) → result ≡ lowest_online (room_of beside (core.now, table)) }
+    ensures lowest { (beside : Beside) (table : Table) →
+        result ≡ lowest_online (room_of beside (core.now, table)) }
     ensures within { result < length core.now.lanes.items }
 {
     for cpu in 0..core.lanes.len() {
@@ -31,7 +32,8 @@ fn lowest_online<Q: SiblingQueue>(core: &Core<Q>) -> Cpu
 /// Where a task of this sibling is at home: there, or on the lowest online one while that is offline.
 pub fn online_home<Q: SiblingQueue>(core: &Core<Q>, cpu: Cpu) -> Cpu
     requires cpu { cpu < length core.now.lanes.items }
-    ensures home { (beside : Beside) (table : Table) → result ≡ online_home (room_of beside (core.now, table)) cpu }
+    ensures home { (beside : Beside) (table : Table) →
+        result ≡ online_home (room_of beside (core.now, table)) cpu }
     ensures within { result < length core.now.lanes.items }
 {
     if core.is_online(cpu) {
@@ -45,7 +47,8 @@ pub fn online_home<Q: SiblingQueue>(core: &Core<Q>, cpu: Cpu) -> Cpu
 #[inline(always)]
 pub fn rehome<Q: SiblingQueue>(core: &Core<Q>, task: &mut Task)
     requires { CanMove core.now task.old }
-    ensures rehomed { (beside : Beside) (table : Table) → task.new ≡ rehomed (room_of beside (core.now, table)) task.old }
+    ensures rehomed { (beside : Beside) (table : Table) →
+        task.new ≡ rehomed (room_of beside (core.now, table)) task.old }
     ensures within { task.new.home < length core.now.lanes.items }
 {
     if !core.is_online(task.home) {
@@ -57,7 +60,8 @@ pub fn rehome<Q: SiblingQueue>(core: &Core<Q>, task: &mut Task)
 #[inline(always)]
 fn preempts<Q: SiblingQueue>(core: &Core<Q>, table: &TaskTable, task: &Task) -> bool
     requires { task.now.home < length core.now.lanes.items }
-    ensures { (beside : Beside) → result ≡ preempts (room_of beside (core.now, table.now)) task.now }
+    ensures { (beside : Beside) →
+        result ≡ preempts (room_of beside (core.now, table.now)) task.now }
 {
     match core.runner(table, task.home) {
         None => true,
@@ -71,7 +75,8 @@ fn preempts<Q: SiblingQueue>(core: &Core<Q>, table: &TaskTable, task: &Task) -> 
 fn refresh<Q: SiblingQueue>(core: &Core<Q>, task: &mut Task, now: u64)
     requires fits { IsFit (length core.now.lanes.items) task.old }
     requires clock { now + 1000000000 < 2 ^ 56 }
-    ensures { (beside : Beside) (table : Table) → task.new ≡ refreshed (room_of (at now beside) (core.now, table)) task.old }
+    ensures { (beside : Beside) (table : Table) →
+        task.new ≡ refreshed (room_of (at now beside) (core.now, table)) task.old }
 {
     match task.spec.policy {
         Policy::Deadline(relative) => task.deadline = now + relative,
@@ -91,7 +96,8 @@ pub fn wake_at_home<Q: SiblingQueue, L: Ledger>(
     steps: &mut Steps<L>,
 )
     requires { MayWakeAtHome now (core.old, table.old) task }
-    ensures touches { TouchesAt now 1 (core.old, table.old) (core.new, table.new) (λ room. queue_at_home room task) }
+    ensures touches { TouchesAt now 1 (core.old, table.old) (core.new, table.new)
+        (λ room. queue_at_home room task) }
     ensures counted { ComparesFor 1 (core.old, table.old) steps.old steps.new }
 {
     let mut fresh = task;

@@ -65,8 +65,10 @@ fn grow_tasks<Q: SiblingQueue, L: Ledger>(
     steps: &mut Steps<L>,
 )
     requires { MayGrow delta (core.old, table.old) }
-    ensures changes { Changes (core.old, table.old) (core.new, table.new) (λ room. record room { tasks = map (grown room delta) room.tasks }) }
-    ensures counted { ComparesFor (2 * length core.old.lanes.items) (core.old, table.old) steps.old steps.new }
+    ensures changes { Changes (core.old, table.old) (core.new, table.new)
+        (λ room. record room { tasks = map (grown room delta) room.tasks }) }
+    ensures counted { ComparesFor (2 * length core.old.lanes.items)
+        (core.old, table.old) steps.old steps.new }
 {
     for cpu in 0..core.lanes.len() {
         grow_on(core, table, cpu as u8, delta, steps);
@@ -92,9 +94,12 @@ fn renew_siblings<Q: SiblingQueue, L: Ledger>(
     steps: &mut Steps<L>,
 )
     requires agree { Agree (core.old, table.now) }
-    requires ran { All (λ sibling. sibling.ran + delta < 2 ^ 64) (map lane_state core.old.lanes.items) }
-    ensures changes { Changes (core.old, table.now) (core.new, table.now) (λ room. with_leasts (with_ages delta room)) }
-    ensures counted { ComparesFor (length core.old.lanes.items) (core.old, table.now) steps.old steps.new }
+    requires ran { All (λ sibling. sibling.ran + delta < 2 ^ 64)
+        (map lane_state core.old.lanes.items) }
+    ensures changes { Changes (core.old, table.now) (core.new, table.now)
+        (λ room. with_leasts (with_ages delta room)) }
+    ensures counted { ComparesFor (length core.old.lanes.items)
+        (core.old, table.now) steps.old steps.new }
 {
     for cpu in 0..core.lanes.len() {
         let lane = &mut core.lanes[cpu];
@@ -115,7 +120,8 @@ pub fn advance<Q: SiblingQueue, L: Ledger>(
 ) -> u64
     requires { MayAdvance now delta (core.old, table.old) }
     ensures advances { Advances now delta (core.old, table.old) (core.new, table.new) result }
-    ensures counted { ComparesFor (3 * length core.old.lanes.items) (core.old, table.old) steps.old steps.new }
+    ensures counted { ComparesFor (3 * length core.old.lanes.items)
+        (core.old, table.old) steps.old steps.new }
 {
     grow_tasks(core, table, delta, steps);
     renew_siblings(core, table, delta, steps);
@@ -141,7 +147,8 @@ fn rotates<Q: SiblingQueue, L: Ledger>(
     steps: &mut Steps<L>,
 ) -> bool
     requires { MayAsk cpu (core.now, table.now) task.now }
-    ensures rotates { (beside : Beside) → result ≡ rotates (room_of beside (core.now, table.now)) cpu task.now }
+    ensures rotates { (beside : Beside) →
+        result ≡ rotates (room_of beside (core.now, table.now)) cpu task.now }
     ensures counted { ComparesFor 1 (core.now, table.now) steps.old steps.new }
 {
     has_used_slice(task)
@@ -159,7 +166,8 @@ fn is_overtaken<Q: SiblingQueue, L: Ledger>(
     steps: &mut Steps<L>,
 ) -> bool
     requires { MayAsk cpu (core.now, table.now) task.now }
-    ensures overtaken { (beside : Beside) → result ≡ is_overtaken (room_of beside (core.now, table.now)) cpu task.now }
+    ensures overtaken { (beside : Beside) →
+        result ≡ is_overtaken (room_of beside (core.now, table.now)) cpu task.now }
     ensures counted { ComparesFor 1 (core.now, table.now) steps.old steps.new }
 {
     if !is_fair(task) {
@@ -184,7 +192,8 @@ fn is_to_yield<Q: SiblingQueue, L: Ledger>(
     steps: &mut Steps<L>,
 ) -> bool
     requires { MayAsk cpu (core.now, table.now) task.now }
-    ensures yields { (beside : Beside) → result ≡ is_to_yield (room_of beside (core.now, table.now)) cpu task.now }
+    ensures yields { (beside : Beside) →
+        result ≡ is_to_yield (room_of beside (core.now, table.now)) cpu task.now }
     ensures counted { ComparesFor 1 (core.now, table.now) steps.old steps.new }
 {
     let lane = &core.lanes[cpu as usize];
@@ -205,9 +214,12 @@ fn asks_at_tick<Q: SiblingQueue, L: Ledger>(
     steps: &mut Steps<L>,
 ) -> bool
     requires may { MayAsk cpu (core.now, table.now) task.now }
-    requires rotates { (beside : Beside) → rotates ≡ time.rotates (room_of beside (core.now, table.now)) cpu task.now }
-    ensures asks { (beside : Beside) → result ≡ asks_at_tick (room_of beside (core.now, table.now)) cpu task.now }
-    ensures counted { ComparesFor (if rotates then 0 else 2) (core.now, table.now) steps.old steps.new }
+    requires rotates { (beside : Beside) →
+        rotates ≡ time.rotates (room_of beside (core.now, table.now)) cpu task.now }
+    ensures asks { (beside : Beside) →
+        result ≡ asks_at_tick (room_of beside (core.now, table.now)) cpu task.now }
+    ensures counted { ComparesFor (if rotates then 0 else 2)
+        (core.now, table.now) steps.old steps.new }
 {
     if rotates {
         return true;
@@ -226,9 +238,11 @@ fn begin_slice<Q: SiblingQueue, L: Ledger>(
     steps: &mut Steps<L>,
 )
     requires { MayBeginSlice pid (core.old, table.old) }
-    ensures changes { (cpu : ℕ) (task : SomeTask) → find (has_pid pid) table.old.tasks ≡ Some task → AreTests cpu (core.old, table.old) task used rotates →
+    ensures changes { (cpu : ℕ) (task : SomeTask) → find (has_pid pid) table.old.tasks ≡ Some task →
+        AreTests cpu (core.old, table.old) task used rotates →
         Changes (core.old, table.old) (core.new, table.new) (λ room. begin_slice room cpu task) }
-    ensures counted { ComparesFor (if rotates then 2 else 0) (core.old, table.old) steps.old steps.new }
+    ensures counted { ComparesFor (if rotates then 2 else 0)
+        (core.old, table.old) steps.old steps.new }
 {
     if rotates {
         let task = task_of(table, pid).unwrap();

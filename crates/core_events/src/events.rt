@@ -67,7 +67,8 @@ fn hotplug_reply(made: Hotplug) -> Reply
 /// of its queue, whatever its class.
 fn child_at_home<Q: SiblingQueue>(core: &Core<Q>, child: Task) -> Task
     requires { child.home < length core.now.lanes.items }
-    ensures child_at_home { (beside : Beside) (table : Table) → result ≡ child_at_home (room_of beside (core.now, table)) child }
+    ensures child_at_home { (beside : Beside) (table : Table) →
+        result ≡ child_at_home (room_of beside (core.now, table)) child }
     ensures within { result.home < length core.now.lanes.items }
 {
     let home = online_home(core, child.home);
@@ -87,7 +88,8 @@ fn requeue<Q: SiblingQueue, L: Ledger>(
     steps: &mut Steps<L>,
 )
     requires { MayQueue now 2 (core.old, table.old) task }
-    ensures touches { TouchesAt now 2 (core.old, table.old) (core.new, table.new) (λ room. requeue room task) }
+    ensures touches { TouchesAt now 2 (core.old, table.old) (core.new, table.new)
+        (λ room. requeue room task) }
     ensures counted { ComparesFor 3 (core.old, table.old) steps.old steps.new }
 {
     let runs = core.lanes[task.home as usize].runs(task.spec.pid);
@@ -124,7 +126,8 @@ fn steal<Q: SiblingQueue, L: Ledger>(
 ) -> Reply
     requires { MayTry cpu (core.old, table.old) }
     ensures tries { AnswersTry (core.old, table.old) (core.new, table.new) cpu result }
-    ensures counted { ComparesFor (length table.old.tasks + 4) (core.old, table.old) steps.old steps.new }
+    ensures counted { ComparesFor (length table.old.tasks + 4)
+        (core.old, table.old) steps.old steps.new }
 {
     steal_reply(try_steal(core, table, cpu, steps))
 }
@@ -138,7 +141,8 @@ fn turn<Q: SiblingQueue, G: Guard, L: Ledger>(
 ) -> Reply
     requires { IsReadyAt cpu state.old }
     ensures makes { Makes state.old state.new (Event.Turn cpu) result }
-    ensures scheduled { (pick : Pick) → result ≡ Reply.Picked pick → ComparesForSchedule (state.old.core, state.old.tasks) steps.old steps.new }
+    ensures scheduled { (pick : Pick) → result ≡ Reply.Picked pick →
+        ComparesForSchedule (state.old.core, state.old.tasks) steps.old steps.new }
     ensures counted { ComparesForEvent state.old (Event.Turn cpu) steps.old steps.new }
 {
     if !state.core.is_online(cpu) {

@@ -62,7 +62,8 @@ fn most_entries(scenario: &Scenario) -> usize
 
 /// What a machine shows of the task, which was charged this for forced idle, in ns.
 fn view(task: &Task, forced: u64) -> TaskView
-    ensures { (room : RoomState) → forced ≡ forced_of room task.now.spec.pid → result ≡ task_view room task.now }
+    ensures { (room : RoomState) → forced ≡ forced_of room task.now.spec.pid →
+        result ≡ task_view room task.now }
 {
     TaskView {
         pid: task.spec.pid,
@@ -104,7 +105,8 @@ impl<Q: SiblingQueue, G: Guard> CoreRoom<Q, G> {
         guards: Guards<G>,
     ) -> Result<CoreRoom<Q, G>, OutOfMemory>
         requires { MayStart scenario.now guards.guards }
-        ensures { IfOk result (λ room. HasStarted scenario.now guards.guards room.opening (history_of room.opening room.steps) room.spare) }
+        ensures { IfOk result (λ room. HasStarted scenario.now guards.guards room.opening
+            (history_of room.opening room.steps) room.spare) }
     {
         let most = most_entries(scenario);
         let entries = BoundedList::with_room(alloc, most)?;
@@ -216,10 +218,12 @@ impl<Q: SiblingQueue, G: Guard> Room for CoreRoom<Q, G> {
     ghost legal = { λ room. IsLegal-history_of room.opening room.steps };
 
     ghost consistent = { λ room playable events. consistent-moment_of room.opening
-        (history_of room.opening room.steps) playable events (IsLegal-history_of room.opening room.steps) };
+        (history_of room.opening room.steps) playable events
+        (IsLegal-history_of room.opening room.steps) };
 
     ghost settled = { λ room playable events. settled-moment_of room.opening
-        (history_of room.opening room.steps) playable events (IsLegal-history_of room.opening room.steps) };
+        (history_of room.opening room.steps) playable events
+        (IsLegal-history_of room.opening room.steps) };
 }
 
 impl<Q: SiblingQueue, G: Guard> FromScenario<Guards<G>> for CoreRoom<Q, G> {

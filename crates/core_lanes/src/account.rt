@@ -22,7 +22,8 @@ type Charged = ArrayVec<Pid, MOST_SIBLINGS>;
 /// that has a cookie.
 fn charged_on<Q: SiblingQueue>(core: &Core<Q>, table: &TaskTable, cpu: Cpu) -> Option<Pid>
     requires { cpu < length core.now.lanes.items }
-    ensures task { (beside : Beside) → result ≡ charged_at (room_of beside (core.now, table.now)) cpu }
+    ensures task { (beside : Beside) →
+        result ≡ charged_at (room_of beside (core.now, table.now)) cpu }
     ensures there { IfSome result (λ pid. IsSome (find (has_pid pid) table.now.tasks)) }
 {
     let lane = &core.lanes[cpu as usize];
@@ -44,7 +45,8 @@ fn charged_on<Q: SiblingQueue>(core: &Core<Q>, table: &TaskTable, cpu: Cpu) -> O
 /// Puts into the empty list the tasks that are charged, by rising sibling.
 fn note_charged<Q: SiblingQueue>(tasks: &mut Charged, core: &Core<Q>, table: &TaskTable)
     requires { tasks.old.items ≡ [] }
-    ensures tasks { (beside : Beside) → tasks.new.items ≡ charged (room_of beside (core.now, table.now)) }
+    ensures tasks { (beside : Beside) →
+        tasks.new.items ≡ charged (room_of beside (core.now, table.now)) }
     ensures there { All (λ pid. IsSome (find (has_pid pid) table.now.tasks)) tasks.new.items }
 {
     for cpu in 0..core.lanes.len() {
@@ -72,7 +74,8 @@ fn charge_each(table: &mut TaskTable, charged: &[Pid], share: u64)
 fn charge_tasks<Q: SiblingQueue>(core: &Core<Q>, table: &mut TaskTable, share: u64)
     requires low { (pid : ℕ) → total_in table.old pid + share < 2 ^ 64 }
     requires sound { IsTable table.old }
-    ensures { (beside : Beside) → Owes (charged (room_of beside (core.now, table.old))) share table.old table.new }
+    ensures { (beside : Beside) →
+        Owes (charged (room_of beside (core.now, table.old))) share table.old table.new }
 {
     let mut tasks = Charged::new();
     note_charged(&mut tasks, core, table);

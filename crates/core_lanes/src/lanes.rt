@@ -83,7 +83,8 @@ impl<Q: SiblingQueue> Core<Q> {
     /// Whether the sibling is online.
     pub fn is_online(&self, cpu: Cpu) -> bool
         requires { cpu < length self.now.lanes.items }
-        ensures { (beside : Beside) (table : Table) → result ≡ is_online (room_of beside (self.now, table)) cpu }
+        ensures { (beside : Beside) (table : Table) →
+            result ≡ is_online (room_of beside (self.now, table)) cpu }
     {
         self.lanes[cpu as usize].online
     }
@@ -92,7 +93,8 @@ impl<Q: SiblingQueue> Core<Q> {
     #[inline(always)]
     pub fn runner<'table>(&self, table: &'table TaskTable, cpu: Cpu) -> Option<&'table Task>
         requires { cpu < length self.now.lanes.items }
-        ensures task { (beside : Beside) → option_copied result ≡ running_on (room_of beside (self.now, table.now)) cpu }
+        ensures task { (beside : Beside) →
+            option_copied result ≡ running_on (room_of beside (self.now, table.now)) cpu }
         ensures there { IfSome result (λ task. IsOf table.now.tasks task.now) }
     {
         table.find(self.lanes[cpu as usize].run?)
@@ -107,8 +109,10 @@ impl<Q: SiblingQueue> Core<Q> {
         steps: &mut Steps<L>,
     ) -> Option<Queued>
         requires { AgreesAt cpu (self.now, table.now) }
-        ensures first { (beside : Beside) → result ≡ option_map queued_of (first_on (room_of beside (self.now, table.now)) cpu) }
-        ensures counted { steps.new ≤ steps.old + Q.most_compared (length (queued_among table.now.tasks cpu)) }
+        ensures first { (beside : Beside) →
+            result ≡ option_map queued_of (first_on (room_of beside (self.now, table.now)) cpu) }
+        ensures counted { steps.new ≤ steps.old
+            + Q.most_compared (length (queued_among table.now.tasks cpu)) }
     {
         self.lanes[cpu as usize].queue.first(table, cpu, steps)
     }
@@ -116,7 +120,8 @@ impl<Q: SiblingQueue> Core<Q> {
     /// Whether a task is queued on a sibling. It compares nothing.
     pub fn has_queued(&self, table: &TaskTable, cpu: Cpu) -> bool
         requires { AgreesAt cpu (self.now, table.now) }
-        ensures { (beside : Beside) → result ≡ is_some (first_on (room_of beside (self.now, table.now)) cpu) }
+        ensures { (beside : Beside) →
+            result ≡ is_some (first_on (room_of beside (self.now, table.now)) cpu) }
     {
         self.lanes[cpu as usize].queue.count(table, cpu) > 0
     }
@@ -139,7 +144,8 @@ impl<Q: SiblingQueue> Core<Q> {
     /// The sibling runs idle.
     pub fn run_idle(&mut self, cpu: Cpu)
         requires { cpu < length self.old.lanes.items }
-        ensures { (table : Table) → Changes (self.old, table) (self.new, table) (λ room. run_idle room cpu) }
+        ensures { (table : Table) → Changes (self.old, table) (self.new, table)
+            (λ room. run_idle room cpu) }
     {
         self.lanes[cpu as usize].run = None;
     }
@@ -147,7 +153,8 @@ impl<Q: SiblingQueue> Core<Q> {
     /// The sibling is pending if it was before, or if the test says so (`resched_curr`).
     pub fn flag(&mut self, cpu: Cpu, test: bool)
         requires { cpu < length self.old.lanes.items }
-        ensures { (table : Table) → Changes (self.old, table) (self.new, table) (λ room. flag room cpu test) }
+        ensures { (table : Table) → Changes (self.old, table) (self.new, table)
+            (λ room. flag room cpu test) }
     {
         self.lanes[cpu as usize].pending |= test;
     }
@@ -155,7 +162,8 @@ impl<Q: SiblingQueue> Core<Q> {
     /// The sibling's next try to steal is at this place.
     pub fn set_place(&mut self, cpu: Cpu, place: u32)
         requires { cpu < length self.old.lanes.items }
-        ensures { (table : Table) → Changes (self.old, table) (self.new, table) (λ room. set_place room cpu place) }
+        ensures { (table : Table) → Changes (self.old, table) (self.new, table)
+            (λ room. set_place room cpu place) }
     {
         self.lanes[cpu as usize].place = place;
     }
@@ -164,7 +172,8 @@ impl<Q: SiblingQueue> Core<Q> {
     #[inline(always)]
     fn take<L: Ledger>(&mut self, table: &TaskTable, task: &Task, steps: &mut Steps<L>)
         requires { IsAtHome (AreHeld (self.old, table.now)) (self.old, table.now) task.now }
-        ensures queues { ChangesQueues self.old self.new (AreHeldBut task.now.spec.pid (self.new, table.now)) }
+        ensures queues { ChangesQueues self.old self.new
+            (AreHeldBut task.now.spec.pid (self.new, table.now)) }
         ensures counted { ComparesFor 1 (self.old, table.now) steps.old steps.new }
     {
         if task.queued {
@@ -176,7 +185,8 @@ impl<Q: SiblingQueue> Core<Q> {
 
     /// The queue that the task belongs in, if one, has it.
     fn put<L: Ledger>(&mut self, table: &TaskTable, task: &Task, steps: &mut Steps<L>)
-        requires home { IsAtHome (AreHeldBut task.now.spec.pid (self.old, table.now)) (self.old, table.now) task.now }
+        requires home { IsAtHome (AreHeldBut task.now.spec.pid (self.old, table.now))
+            (self.old, table.now) task.now }
         requires stamp { IsTrue task.now.queued → HasOwnStamp table.now.tasks task.now }
         ensures queues { ChangesQueues self.old self.new (AreHeld (self.new, table.now)) }
         ensures counted { ComparesFor 1 (self.old, table.now) steps.old steps.new }
@@ -192,7 +202,8 @@ impl<Q: SiblingQueue> Core<Q> {
     #[inline(always)]
     pub fn change<L: Ledger>(&mut self, table: &mut TaskTable, task: Task, steps: &mut Steps<L>)
         requires { Knows (self.old, table.old) task }
-        ensures changes { Changes (self.old, table.old) (self.new, table.new) (λ room. with_task room task) }
+        ensures changes { Changes (self.old, table.old) (self.new, table.new)
+            (λ room. with_task room task) }
         ensures counted { ComparesFor 2 (self.old, table.old) steps.old steps.new }
     {
         let old = table.find(task.spec.pid).unwrap();
@@ -215,7 +226,8 @@ impl<Q: SiblingQueue> Core<Q> {
         steps: &mut Steps<L>,
     )
         requires { IsAtHome (AreHeld (self.old, table.now)) (self.old, table.now) task.now }
-        ensures queues { ChangesQueues self.old self.new (AreHeld (self.new, record table.now { tasks = given_cookie task.now cookie table.now.tasks })) }
+        ensures queues { ChangesQueues self.old self.new (AreHeld
+            (self.new, record table.now { tasks = given_cookie task.now cookie table.now.tasks })) }
         ensures counted { ComparesFor 1 (self.old, table.now) steps.old steps.new }
     {
         if task.queued {
@@ -236,7 +248,8 @@ impl<Q: SiblingQueue> Core<Q> {
     )
         requires there { IsOf table.old.tasks task.now }
         requires agree { Agree (self.old, table.old) }
-        ensures replaces { Replaces (record task.now { cookie = cookie }) (self.old, table.old) (self.new, table.new) }
+        ensures replaces { Replaces (record task.now { cookie = cookie })
+            (self.old, table.old) (self.new, table.new) }
         ensures counted { ComparesFor 1 (self.old, table.old) steps.old steps.new }
     {
         if task.cookie == cookie {
@@ -258,7 +271,8 @@ impl<Q: SiblingQueue> Core<Q> {
     )
         requires fair { IsTrue (is_fair task.now) }
         requires home { IsAtHome (AreHeld (self.old, table.now)) (self.old, table.now) task.now }
-        ensures queues { ChangesQueues self.old self.new (AreHeld (self.new, record table.now { tasks = given_vtime task.now vtime table.now.tasks })) }
+        ensures queues { ChangesQueues self.old self.new (AreHeld
+            (self.new, record table.now { tasks = given_vtime task.now vtime table.now.tasks })) }
         ensures counted { ComparesFor 2 (self.old, table.now) steps.old steps.new }
     {
         if task.queued {
@@ -303,7 +317,8 @@ impl<Q: SiblingQueue> Core<Q> {
     #[inline(always)]
     pub fn dequeue<L: Ledger>(&mut self, table: &mut TaskTable, task: Task, steps: &mut Steps<L>)
         requires { MayDequeue (self.old, table.old) task }
-        ensures touches { Touches 1 (self.old, table.old) (self.new, table.new) (λ room. dequeue room task) }
+        ensures touches { Touches 1 (self.old, table.old) (self.new, table.new)
+            (λ room. dequeue room task) }
         ensures counted { ComparesFor 2 (self.old, table.old) steps.old steps.new }
     {
         let mut asleep = task;
@@ -332,7 +347,8 @@ impl<Q: SiblingQueue> Core<Q> {
     #[inline(always)]
     pub fn wake<L: Ledger>(&mut self, table: &mut TaskTable, task: &Task, steps: &mut Steps<L>)
         requires { MayWake (self.old, table.old) task.now }
-        ensures touches { Touches 1 (self.old, table.old) (self.new, table.new) (λ room. enqueue room task.now) }
+        ensures touches { Touches 1 (self.old, table.old) (self.new, table.new)
+            (λ room. enqueue room task.now) }
         ensures counted { ComparesFor 1 (self.old, table.old) steps.old steps.new }
     {
         let stamp = self.next_stamp;
@@ -348,7 +364,8 @@ impl<Q: SiblingQueue> Core<Q> {
     #[inline(always)]
     pub fn enqueue<L: Ledger>(&mut self, table: &mut TaskTable, task: Task, steps: &mut Steps<L>)
         requires { MayEnqueue (self.old, table.old) task }
-        ensures touches { Touches 1 (self.old, table.old) (self.new, table.new) (λ room. enqueue room task) }
+        ensures touches { Touches 1 (self.old, table.old) (self.new, table.new)
+            (λ room. enqueue room task) }
         ensures counted { ComparesFor 2 (self.old, table.old) steps.old steps.new }
     {
         let stamp = self.next_stamp;
@@ -366,7 +383,8 @@ impl<Q: SiblingQueue> Core<Q> {
     pub fn moved_to(&self, cpu: Cpu, task: Task) -> Task
         requires cpu { cpu < length self.now.lanes.items }
         requires can { CanMove self.now task }
-        ensures { (beside : Beside) (table : Table) → result ≡ moved_to (room_of beside (self.now, table)) cpu task }
+        ensures { (beside : Beside) (table : Table) →
+            result ≡ moved_to (room_of beside (self.now, table)) cpu task }
     {
         let ahead = task
             .vtime

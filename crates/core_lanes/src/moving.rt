@@ -46,7 +46,8 @@ impl<Q: SiblingQueue> Core<Q> {
     #[inline(always)]
     pub fn place(&mut self, table: &mut TaskTable, pids: &[Pid], from: Cpu, to: Cpu)
         requires { MayPlace (length pids.now) from to self.old }
-        ensures placed { PlacesFirst (length pids.now) pids.now from to (self.old, table.old) (self.new, table.new) }
+        ensures placed { PlacesFirst (length pids.now) pids.now from to
+            (self.old, table.old) (self.new, table.new) }
     {
         let behind = self.lanes[from as usize].least;
         let least = self.lanes[to as usize].least;

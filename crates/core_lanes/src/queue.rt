@@ -36,13 +36,16 @@ pub trait SiblingQueue: Drop {
     fn put<L: Ledger>(&mut self, table: &TaskTable, cpu: Cpu, task: &Task, steps: &mut Steps<L>)
         requires { MayBePut (holds self.old) cpu table.now task.now }
         ensures holds { holds self.new table.now.limit (queued_at table.now.tasks cpu) }
-        ensures counted { steps.new ≤ steps.old + most_compared (length (queued_among table.now.tasks cpu)) };
+        ensures counted { steps.new ≤ steps.old
+            + most_compared (length (queued_among table.now.tasks cpu)) };
 
     /// The task, which the table has queued on the sibling, leaves.
     fn take<L: Ledger>(&mut self, table: &TaskTable, cpu: Cpu, task: &Task, steps: &mut Steps<L>)
         requires { IsQueuedOn (holds self.old) cpu table.now task.now }
-        ensures holds { holds self.new table.now.limit (others task.now.spec.pid (queued_at table.now.tasks cpu)) }
-        ensures counted { steps.new ≤ steps.old + most_compared (length (queued_among table.now.tasks cpu)) };
+        ensures holds { holds self.new table.now.limit
+            (others task.now.spec.pid (queued_at table.now.tasks cpu)) }
+        ensures counted { steps.new ≤ steps.old
+            + most_compared (length (queued_among table.now.tasks cpu)) };
 
     /// The task, which the table has queued on the sibling, is about to have this cookie there
     /// (`sched_core_update_cookie`).
@@ -55,8 +58,10 @@ pub trait SiblingQueue: Drop {
         steps: &mut Steps<L>,
     )
         requires { IsQueuedOn (holds self.old) cpu table.now task.now }
-        ensures holds { holds self.new table.now.limit (queued_at (given_cookie task.now cookie table.now.tasks) cpu) }
-        ensures counted { steps.new ≤ steps.old + most_compared (length (queued_among table.now.tasks cpu)) };
+        ensures holds { holds self.new table.now.limit
+            (queued_at (given_cookie task.now cookie table.now.tasks) cpu) }
+        ensures counted { steps.new ≤ steps.old
+            + most_compared (length (queued_among table.now.tasks cpu)) };
 
     /// The task, a fair one that the table has queued on the sibling, is about to have this virtual time there, in
     /// ns (`update_curr`). It may leave and enter, so it makes at most twice as many comparisons as another call.
@@ -69,8 +74,10 @@ pub trait SiblingQueue: Drop {
         steps: &mut Steps<L>,
     )
         requires { IsFairOn (holds self.old) cpu table.now task.now }
-        ensures holds { holds self.new table.now.limit (queued_at (given_vtime task.now vtime table.now.tasks) cpu) }
-        ensures counted { steps.new ≤ steps.old + 2 * most_compared (length (queued_among table.now.tasks cpu)) };
+        ensures holds { holds self.new table.now.limit
+            (queued_at (given_vtime task.now vtime table.now.tasks) cpu) }
+        ensures counted { steps.new ≤ steps.old
+            + 2 * most_compared (length (queued_among table.now.tasks cpu)) };
 
     /// Every task leaves. It can take as many in all as before.
     fn clear(&mut self, table: &TaskTable, cpu: Cpu)
@@ -96,13 +103,16 @@ pub trait SiblingQueue: Drop {
     )
         requires { MayRenew (holds self.old table.now.limit) cpu table.now }
         ensures holds { holds self.new table.now.limit (queued_at table.now.tasks cpu) }
-        ensures counted { steps.new ≤ steps.old + 3 * most_compared (length (queued_among table.now.tasks cpu)) };
+        ensures counted { steps.new ≤ steps.old
+            + 3 * most_compared (length (queued_among table.now.tasks cpu)) };
 
     /// The first task, `None` if there is none (`pick_task`).
     fn first<L: Ledger>(&self, table: &TaskTable, cpu: Cpu, steps: &mut Steps<L>) -> Option<Queued>
         requires { MaySearch (holds self.now) cpu table.now }
-        ensures answer { result ≡ option_map queued_of (first_of (queued_among table.now.tasks cpu)) }
-        ensures counted { steps.new ≤ steps.old + most_compared (length (queued_among table.now.tasks cpu)) };
+        ensures answer { result ≡ option_map queued_of
+            (first_of (queued_among table.now.tasks cpu)) }
+        ensures counted { steps.new ≤ steps.old
+            + most_compared (length (queued_among table.now.tasks cpu)) };
 
     /// The first task with the cookie, which is not 0 (`sched_core_find`).
     fn first_with<L: Ledger>(
@@ -113,8 +123,10 @@ pub trait SiblingQueue: Drop {
         steps: &mut Steps<L>,
     ) -> Option<Queued>
         requires { MayFind (holds self.now) cpu table.now cookie }
-        ensures answer { result ≡ option_map queued_of (first_of (with_cookie cookie (queued_among table.now.tasks cpu))) }
-        ensures counted { steps.new ≤ steps.old + most_compared (length (queued_among table.now.tasks cpu)) };
+        ensures answer { result ≡ option_map queued_of
+            (first_of (with_cookie cookie (queued_among table.now.tasks cpu))) }
+        ensures counted { steps.new ≤ steps.old
+            + most_compared (length (queued_among table.now.tasks cpu)) };
 
     /// The first task with the cookie of this one, which is not 0, that stands after it (`sched_core_next`).
     fn next_with<L: Ledger>(
@@ -126,8 +138,10 @@ pub trait SiblingQueue: Drop {
     ) -> Option<Task>
         requires policy { IsPolicy task.now.spec.policy }
         requires find { MayFind (holds self.now) cpu table.now task.now.cookie }
-        ensures answer { result ≡ first_of (behind task.now (with_cookie task.now.cookie (queued_among table.now.tasks cpu))) }
-        ensures counted { steps.new ≤ steps.old + most_compared (length (queued_among table.now.tasks cpu)) };
+        ensures answer { result ≡ first_of
+            (behind task.now (with_cookie task.now.cookie (queued_among table.now.tasks cpu))) }
+        ensures counted { steps.new ≤ steps.old
+            + most_compared (length (queued_among table.now.tasks cpu)) };
 
     /// The smallest virtual time of the fair tasks, in ns, `None` if there is none (`update_min_vruntime`).
     fn smallest_vtime<L: Ledger>(
@@ -138,7 +152,8 @@ pub trait SiblingQueue: Drop {
     ) -> Option<u128>
         requires { MaySearch (holds self.now) cpu table.now }
         ensures answer { result ≡ smallest_vtime (queued_among table.now.tasks cpu) }
-        ensures counted { steps.new ≤ steps.old + most_compared (length (queued_among table.now.tasks cpu)) };
+        ensures counted { steps.new ≤ steps.old
+            + most_compared (length (queued_among table.now.tasks cpu)) };
 
     /// Whether there is another task of the class of this one, and among real-time tasks one of its priority.
     fn has_peer<L: Ledger>(
@@ -150,7 +165,8 @@ pub trait SiblingQueue: Drop {
     ) -> bool
         requires { MayCompare (holds self.now) cpu table.now task.now }
         ensures answer { result ≡ has_peer task.now (queued_among table.now.tasks cpu) }
-        ensures counted { steps.new ≤ steps.old + most_compared (length (queued_among table.now.tasks cpu)) };
+        ensures counted { steps.new ≤ steps.old
+            + most_compared (length (queued_among table.now.tasks cpu)) };
 
     /// How many tasks there are (`nr_running`).
     fn count(&self, table: &TaskTable, cpu: Cpu) -> u32

@@ -40,7 +40,11 @@ impl Choice {
 
     /// This task, as its queue has it.
     pub fn of(queued: &Queued) -> Choice
-        ensures { result ≡ record { cookie = queued.now.cookie; pid = queued.now.pid; class = queued.now.class } }
+        ensures { result ≡ record {
+          cookie = queued.now.cookie;
+          pid = queued.now.pid;
+          class = queued.now.class;
+        } }
     {
         Choice {
             cookie: queued.cookie,
@@ -95,7 +99,8 @@ impl Counts {
     /// The counts with a sibling for which a task is chosen, which counts if it is online.
     pub fn with_task(self, online: bool) -> Counts
         requires { MayCount self }
-        ensures { result ≡ record self { occupation = self.occupation + (if online then 1 else 0) } }
+        ensures { result
+            ≡ record self { occupation = self.occupation + (if online then 1 else 0) } }
     {
         Counts {
             occupation: self.occupation + u8::from(online),
@@ -107,7 +112,9 @@ impl Counts {
 /// The task that is chosen for the sibling, if one is, remembers the occupation.
 fn update_task(tasks: &mut TaskTable, choice: &Choice, occupation: u8)
     requires { IsTable tasks.old }
-    ensures tasks { tasks.new ≡ record tasks.old { tasks = map (task_after_choice choice.now occupation) tasks.old.tasks } }
+    ensures tasks { tasks.new ≡ record tasks.old {
+      tasks = map (task_after_choice choice.now occupation) tasks.old.tasks;
+    } }
     ensures sound { IsTable tasks.new }
 {
     if let Some(pid) = choice.run() {
@@ -129,7 +136,8 @@ pub fn update<Q: Drop>(
     requires few { length lanes.old ≤ 16 }
     requires table { IsTable tasks.old }
     ensures hands { (room : RoomState) (cookie : ℕ) → room.siblings ≡ map lane_state lanes.old →
-        IsPlan room cookie choices.now occupation renews → HandsOut room selector cookie lanes.new tasks.old tasks.new }
+        IsPlan room cookie choices.now occupation renews →
+        HandsOut room selector cookie lanes.new tasks.old tasks.new }
     ensures own { map kept_in_selection lanes.new ≡ map kept_in_selection lanes.old }
     ensures sound { IsTable tasks.new }
 {

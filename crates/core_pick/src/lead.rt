@@ -61,7 +61,8 @@ impl First {
 #[inline(always)]
 pub fn first_kept(first: Option<&Queued>, snapshot: u128) -> First
     requires { MayKeep snapshot (option_copied first) }
-    ensures { (task : Option Task) → option_copied first.entry ≡ option_map queued_of task → result ≡ first_kept snapshot task }
+    ensures { (task : Option Task) → option_copied first.entry ≡ option_map queued_of task →
+        result ≡ first_kept snapshot task }
 {
     match first {
         None => First::idle(),

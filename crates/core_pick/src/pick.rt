@@ -33,7 +33,8 @@ fn may_adopt(task_number: u64, pick_number: u64, own_number: u64) -> bool
 /// What waits for the sibling, if its own number and those of the core let it adopt that.
 fn adoptable<Q: SiblingQueue>(core: &Core<Q>, cpu: Cpu) -> Option<Option<Pid>>
     requires { cpu < length core.now.lanes.items }
-    ensures { (beside : Beside) (table : Table) → result ≡ adoptable_by cpu (numbers_of (core.now, table)) (room_of beside (core.now, table)) }
+    ensures { (beside : Beside) (table : Table) → result
+        ≡ adoptable_by cpu (numbers_of (core.now, table)) (room_of beside (core.now, table)) }
 {
     let lane = &core.lanes[cpu as usize];
     if may_adopt(core.task_number, core.pick_number, lane.number) {
@@ -46,7 +47,8 @@ fn adoptable<Q: SiblingQueue>(core: &Core<Q>, cpu: Cpu) -> Option<Option<Pid>>
 /// The sibling runs what waits for it.
 fn adopt<Q: SiblingQueue>(core: &mut Core<Q>, cpu: Cpu, waiting: Option<Pid>) -> Pick
     requires { cpu < length core.old.lanes.items }
-    ensures { (now : ℕ) (table : Table) → Schedules now (core.old, table) (core.new, table) cpu result (λ room. adopt room cpu waiting) }
+    ensures { (now : ℕ) (table : Table) → Schedules now
+        (core.old, table) (core.new, table) cpu result (λ room. adopt room cpu waiting) }
 {
     let lane = &mut core.lanes[cpu as usize];
     run(lane, waiting);
@@ -70,7 +72,9 @@ fn is_cookieless(core: Cookie, forced: u8, first: Cookie) -> bool
 
 /// Whether no cookie takes part in a schedule of the sibling with this first task.
 fn is_plain<Q: SiblingQueue>(core: &Core<Q>, first: &First) -> bool
-    ensures { (beside : Beside) (table : Table) (cpu : ℕ) → KeepsFirst cpu (core.now, table) first.now → result ≡ is_plain (room_of beside (core.now, table)) cpu }
+    ensures { (beside : Beside) (table : Table) (cpu : ℕ) →
+        KeepsFirst cpu (core.now, table) first.now →
+        result ≡ is_plain (room_of beside (core.now, table)) cpu }
 {
     is_cookieless(core.cookie, core.account.count(), first.choice.cookie)
 }
@@ -79,7 +83,8 @@ fn is_plain<Q: SiblingQueue>(core: &Core<Q>, first: &First) -> bool
 fn pick_plain<Q: SiblingQueue>(core: &mut Core<Q>, cpu: Cpu, first: &First) -> Pick
     requires cpu { cpu < length core.old.lanes.items }
     requires touches { core.old.task_number + 1 < 2 ^ 64 }
-    ensures { (now : ℕ) (table : Table) → KeepsFirst cpu (core.old, table) first.now → Schedules now (core.old, table) (core.new, table) cpu result (λ room. pick_plain room cpu) }
+    ensures { (now : ℕ) (table : Table) → KeepsFirst cpu (core.old, table) first.now →
+        Schedules now (core.old, table) (core.new, table) cpu result (λ room. pick_plain room cpu) }
 {
     core.account.close();
     let choice = &first.choice;
@@ -120,7 +125,8 @@ fn select_for<Q: SiblingQueue, L: Ledger>(
 ) -> Option<Pid>
     requires may { MaySelect now cpu cookie choices.old (core.old, table.old) }
     ensures selects { Selects now (core.old, table.old) (core.new, table.new) cpu cookie result }
-    ensures counted { Compares (core.old, table.old) (λ most. steps.new ≤ steps.old + length core.old.lanes.items * most) }
+    ensures counted { Compares (core.old, table.old)
+        (λ most. steps.new ≤ steps.old + length core.old.lanes.items * most) }
 {
     let Counts { forced, occupation } = choose(choices, core, table, cookie, steps);
     let renews = renews_snapshots(core.account.count(), forced);
@@ -141,10 +147,12 @@ fn select<Q: SiblingQueue, L: Ledger>(
 ) -> Pick
     requires may { MayPick now cpu (core.old, table.old) }
     requires first { KeepsFirst cpu (core.old, table.old) first.now }
-    ensures schedules { Schedules now (core.old, table.old) (core.new, table.new) cpu result (λ room. select room cpu) }
+    ensures schedules { Schedules now (core.old, table.old) (core.new, table.new) cpu result
+        (λ room. select room cpu) }
 
     // The first was asked before.
-    ensures counted { Compares (core.old, table.old) (λ most. steps.new + most ≤ steps.old + most_of_schedule (length core.old.lanes.items) most) }
+    ensures counted { Compares (core.old, table.old) (λ most. steps.new + most
+        ≤ steps.old + most_of_schedule (length core.old.lanes.items) most) }
 {
     let mut places = [Choice::default(); MOST_SIBLINGS];
     let choices = &mut places[..core.lanes.len()];
@@ -172,7 +180,8 @@ fn pick_anew<Q: SiblingQueue, L: Ledger>(
     steps: &mut Steps<L>,
 ) -> Pick
     requires { MayPick now cpu (core.old, table.old) }
-    ensures { SchedulesWithin now (core.old, table.old) (core.new, table.new) cpu result steps.old steps.new (λ room. pick_anew room cpu) }
+    ensures { SchedulesWithin now (core.old, table.old) (core.new, table.new) cpu result
+        steps.old steps.new (λ room. pick_anew room cpu) }
 {
     let first = first_at(core, table, cpu, steps);
     if is_plain(core, &first) {
@@ -191,7 +200,8 @@ pub fn pick_and_balance<Q: SiblingQueue, L: Ledger>(
     steps: &mut Steps<L>,
 ) -> Pick
     requires { MayPick now cpu (core.old, table.old) }
-    ensures { SchedulesWithin now (core.old, table.old) (core.new, table.new) cpu result steps.old steps.new
+    ensures { SchedulesWithin now (core.old, table.old) (core.new, table.new) cpu result
+        steps.old steps.new
         (λ room. balance cpu (pick_anew room cpu)) }
 {
     let pick = pick_anew(core, table, cpu, now, steps);
@@ -209,8 +219,10 @@ fn adopt_or_pick_anew<Q: SiblingQueue, L: Ledger>(
     steps: &mut Steps<L>,
 ) -> Pick
     requires { MaySchedule now cpu (core.old, table.old) }
-    ensures schedules { ChargesAndSchedules now (core.old, table.old) (core.new, table.new) cpu result
-        (λ room. adopt_or_pick_anew room (may_adopt_by cpu (numbers_of (core.old, table.old))) cpu (sibling_of room cpu).waiting) }
+    ensures schedules { ChargesAndSchedules now
+        (core.old, table.old) (core.new, table.new) cpu result
+        (λ room. adopt_or_pick_anew room (may_adopt_by cpu (numbers_of (core.old, table.old))) cpu
+        (sibling_of room cpu).waiting) }
     ensures counted { ComparesForSchedule (core.old, table.old) steps.old steps.new }
 {
     if let Some(waiting) = adoptable(core, cpu) {
@@ -231,9 +243,11 @@ pub fn schedule<Q: SiblingQueue, L: Ledger>(
     steps: &mut Steps<L>,
 ) -> Option<Pick>
     requires { MaySchedule now cpu (core.old, table.old) }
-    ensures online { (beside : Beside) → is_some result ≡ is_online (room_of beside (core.old, table.old)) cpu }
+    ensures online { (beside : Beside) →
+        is_some result ≡ is_online (room_of beside (core.old, table.old)) cpu }
     ensures unchanged { IfNone result ((core.new ≡ core.old) × (table.new ≡ table.old)) }
-    ensures schedules { IfSome result (λ pick. ChargesAndSchedules now (core.old, table.old) (core.new, table.new) cpu pick
+    ensures schedules { IfSome result
+        (λ pick. ChargesAndSchedules now (core.old, table.old) (core.new, table.new) cpu pick
         (λ room. schedule room (may_adopt_by cpu (numbers_of (core.old, table.old))) cpu)) }
 
     // How many comparisons the queues make for it, by the most tasks that a queue has.

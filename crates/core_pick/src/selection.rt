@@ -31,7 +31,10 @@ fn search_on<Q: SiblingQueue, L: Ledger>(
     steps: &mut Steps<L>,
 ) -> Option<Queued>
     requires { MaySearch (Q.holds lane.now.queue) cpu table.now }
-    ensures { AsksOf Q.most_compared cpu table.now (result ≡ option_map queued_of (if cookie == 0 then None else first_of (with_cookie cookie (queued_among table.now.tasks cpu)))) steps.old steps.new }
+    ensures { AsksOf Q.most_compared cpu table.now
+        (result ≡ option_map queued_of (if cookie == 0 then None
+        else first_of (with_cookie cookie (queued_among table.now.tasks cpu))))
+        steps.old steps.new }
 {
     if cookie == 0 {
         return None;
@@ -53,7 +56,9 @@ fn settle<Q: SiblingQueue, L: Ledger>(
 ) -> Counts
     requires search { MaySearch (Q.holds lane.now.queue) cpu table.now }
     requires may { MayCount counts }
-    ensures { AsksOf Q.most_compared cpu table.now (GetsCounted cpu cookie lane.now table.now counts result given.old given.new) steps.old steps.new }
+    ensures { AsksOf Q.most_compared cpu table.now
+        (GetsCounted cpu cookie lane.now table.now counts result given.old given.new)
+        steps.old steps.new }
 {
     if given.is_idle() {
         return counts;
@@ -82,9 +87,11 @@ pub fn choose<Q: SiblingQueue, L: Ledger>(
     steps: &mut Steps<L>,
 ) -> Counts
     requires agree { Agree (core.now, table.now) }
-    requires firsts { (beside : Beside) → choices.old ≡ firsts_of (room_of beside (core.now, table.now)) }
+    requires firsts { (beside : Beside) →
+        choices.old ≡ firsts_of (room_of beside (core.now, table.now)) }
     ensures gets { GetAll cookie (core.now, table.now) choices.new result }
-    ensures counted { Compares (core.now, table.now) (λ most. steps.new ≤ steps.old + length core.now.lanes.items * most) }
+    ensures counted { Compares (core.now, table.now)
+        (λ most. steps.new ≤ steps.old + length core.now.lanes.items * most) }
 {
     let lanes = core.lanes.as_slice();
     let mut counts = Counts {
@@ -108,7 +115,8 @@ pub fn first_at<Q: SiblingQueue, L: Ledger>(
     steps: &mut Steps<L>,
 ) -> First
     requires { MayAsk cpu (core.now, table.now) }
-    ensures { AsksOnce cpu (core.now, table.now) (KeepsFirst cpu (core.now, table.now) result) steps.old steps.new }
+    ensures { AsksOnce cpu (core.now, table.now) (KeepsFirst cpu (core.now, table.now) result)
+        steps.old steps.new }
 {
     let first = core.first_on(table, cpu, steps);
     first_kept(first.as_ref(), core.lanes[cpu as usize].snapshot)
@@ -118,7 +126,8 @@ pub fn first_at<Q: SiblingQueue, L: Ledger>(
 #[inline(always)]
 fn lead_alone<Q: SiblingQueue>(core: &Core<Q>, cpu: Cpu, first: &First) -> First
     requires { cpu < length core.now.lanes.items }
-    ensures { (table : Table) → KeepsFirst cpu (core.now, table) first.now → LeadsAlone cpu (core.now, table) result }
+    ensures { (table : Table) → KeepsFirst cpu (core.now, table) first.now →
+        LeadsAlone cpu (core.now, table) result }
 {
     if core.is_online(cpu) {
         *first
@@ -131,7 +140,8 @@ fn lead_alone<Q: SiblingQueue>(core: &Core<Q>, cpu: Cpu, first: &First) -> First
 #[inline(always)]
 fn lead_with<Q: SiblingQueue>(core: &Core<Q>, cpu: Cpu, lead: First, first: First) -> First
     requires { cpu < length core.now.lanes.items }
-    ensures { (table : Table) → MayAsk cpu (core.now, table) → KeepsFirst cpu (core.now, table) first → LeadsWith cpu (core.now, table) lead result }
+    ensures { (table : Table) → MayAsk cpu (core.now, table) →
+        KeepsFirst cpu (core.now, table) first → LeadsWith cpu (core.now, table) lead result }
 {
     if core.is_online(cpu) {
         lead.or_higher(first)
@@ -155,7 +165,8 @@ fn ask_from<Q: SiblingQueue, L: Ledger>(
     requires many { length firsts.old ≡ length core.now.lanes.items }
     requires part { MayAskPart from to (core.now, table.now) }
     ensures asks { AsksPart from to (core.now, table.now) firsts.old firsts.new before result }
-    ensures counted { Compares (core.now, table.now) (λ most. steps.new ≤ steps.old + (to - from) * most) }
+    ensures counted { Compares (core.now, table.now)
+        (λ most. steps.new ≤ steps.old + (to - from) * most) }
 {
     let mut lead = before;
     for cpu in from..to {
@@ -181,7 +192,8 @@ pub fn ask<Q: SiblingQueue, L: Ledger>(
     requires may { MayAsk own (core.now, table.now) }
     requires first { KeepsFirst own (core.now, table.now) first.now }
     ensures asks { AsksAll own (core.now, table.now) firsts.new result }
-    ensures counted { Compares (core.now, table.now) (λ most. steps.new + most ≤ steps.old + length core.now.lanes.items * most) }
+    ensures counted { Compares (core.now, table.now)
+        (λ most. steps.new + most ≤ steps.old + length core.now.lanes.items * most) }
 {
     firsts[own as usize] = first.choice;
     let offer = lead_alone(core, own, first);

@@ -22,7 +22,9 @@ pub fn run<Q: Drop>(lane: &mut Lane<Q>, run: Option<Pid>)
 
 /// It runs its first task, which is fair if the test says so, or idle (`se_fi_update`).
 pub fn run_first<Q: Drop>(lane: &mut Lane<Q>, first: Option<Pid>, is_fair: bool)
-    ensures { lane.new ≡ record (lane_running lane.old first) { snapshot = if is_fair then lane.old.least else lane.old.snapshot } }
+    ensures { lane.new ≡ record (lane_running lane.old first) {
+      snapshot = if is_fair then lane.old.least else lane.old.snapshot;
+    } }
 {
     run(lane, first);
     if is_fair {
@@ -41,7 +43,8 @@ fn take<Q: Drop>(
     occupation: u8,
     renews: bool,
 )
-    ensures state { (room : RoomState) (cookie selector cpu : ℕ) → chosen ≡ pid_of (choice room cookie cpu) → is_fair ≡ is_fair_task (choice room cookie cpu) →
+    ensures state { (room : RoomState) (cookie selector cpu : ℕ) →
+        chosen ≡ pid_of (choice room cookie cpu) → is_fair ≡ is_fair_task (choice room cookie cpu) →
         IsHanded room cookie selector cpu selects occupation renews lane.old lane.new }
     ensures own { kept_in_selection lane.new ≡ kept_in_selection lane.old }
 {
@@ -72,7 +75,9 @@ pub fn hand<Q: Drop>(
     occupation: u8,
     renews: bool,
 )
-    ensures state { (room : RoomState) (cookie selector cpu : ℕ) → given.now ≡ choice_of (choice room cookie cpu) → IsHanded room cookie selector cpu selects occupation renews lane.old lane.new }
+    ensures state { (room : RoomState) (cookie selector cpu : ℕ) →
+        given.now ≡ choice_of (choice room cookie cpu) →
+        IsHanded room cookie selector cpu selects occupation renews lane.old lane.new }
     ensures own { kept_in_selection lane.new ≡ kept_in_selection lane.old }
 {
     // Each call is for one of them alone, so that what it does for the other falls away.

@@ -68,8 +68,10 @@ impl<Q: SiblingQueue, G: Guard> State<Q, G> {
     /// The members of the group have the cookie, by rising pid.
     fn set_group<L: Ledger>(&mut self, group: Group, cookie: Cookie, steps: &mut Steps<L>)
         requires { MaySet cookie (2 * length self.old.tasks.tasks + 2) self.old }
-        ensures sets { SetsCookies self.old self.new (group_above group 0 self.old.tasks.tasks) cookie }
-        ensures counted { ComparesFor (length self.old.tasks.tasks) (both self.old) steps.old steps.new }
+        ensures sets { SetsCookies self.old self.new
+            (group_above group 0 self.old.tasks.tasks) cookie }
+        ensures counted { ComparesFor (length self.old.tasks.tasks)
+            (both self.old) steps.old steps.new }
     {
         let mut after = self.tasks.below(group);
         for _ in 0..self.tasks.most_in(group) {
@@ -85,7 +87,8 @@ impl<Q: SiblingQueue, G: Guard> State<Q, G> {
     fn set_cookies<L: Ledger>(&mut self, to: Target, cookie: Cookie, steps: &mut Steps<L>)
         requires { MaySet cookie (2 * length self.old.tasks.tasks + 2) self.old }
         ensures sets { SetsCookies self.old self.new (named to self.old.tasks.tasks) cookie }
-        ensures counted { ComparesFor (length self.old.tasks.tasks) (both self.old) steps.old steps.new }
+        ensures counted { ComparesFor (length self.old.tasks.tasks)
+            (both self.old) steps.old steps.new }
     {
         match to {
             Target::Nobody => {}
@@ -109,7 +112,8 @@ impl<Q: SiblingQueue, G: Guard> State<Q, G> {
     ) -> Reply
         requires { MayCall smt_off self.old }
         ensures makes { Makes self.old self.new (Prctl pid ask) result }
-        ensures counted { ComparesFor (length self.old.tasks.tasks) (both self.old) steps.old steps.new }
+        ensures counted { ComparesFor (length self.old.tasks.tasks)
+            (both self.old) steps.old steps.new }
     {
         let planned = plan(
             &self.tasks,

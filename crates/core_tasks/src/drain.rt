@@ -18,7 +18,8 @@ fn is_due<Q: Drop>(lane: &Lane<Q>, has_waiting: bool) -> bool
 
 /// The lowest online sibling that is pending, and for which something waits if the test asks for it.
 fn lowest_pending<Q: SiblingQueue>(core: &Core<Q>, has_waiting: bool) -> Option<Cpu>
-    ensures { (beside : Beside) (table : Table) → result ≡ lowest_pending (room_of beside (core.now, table)) has_waiting }
+    ensures { (beside : Beside) (table : Table) →
+        result ≡ lowest_pending (room_of beside (core.now, table)) has_waiting }
 {
     for cpu in 0..core.lanes.len() {
         if is_due(&core.lanes[cpu], has_waiting) {
@@ -31,7 +32,8 @@ fn lowest_pending<Q: SiblingQueue>(core: &Core<Q>, has_waiting: bool) -> Option<
 /// Who schedules next in the final drain: the lowest pending sibling whose schedule would be an
 /// adoption, and if there is none, the lowest pending one.
 pub fn next_to_schedule<Q: SiblingQueue>(core: &Core<Q>) -> Option<Cpu>
-    ensures { (beside : Beside) (table : Table) → result ≡ next_by (room_of beside (core.now, table)) (is_fresh_by (numbers_of (core.now, table))) }
+    ensures { (beside : Beside) (table : Table) → result
+        ≡ next_by (room_of beside (core.now, table)) (is_fresh_by (numbers_of (core.now, table))) }
 {
     if core.is_fresh() {
         lowest_pending(core, true).or(lowest_pending(core, false))

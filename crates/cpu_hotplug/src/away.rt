@@ -15,7 +15,8 @@ use cs_types::Cpu;
 
 /// How many siblings are online.
 pub fn online_count<Q: SiblingQueue>(core: &Core<Q>) -> u8
-    ensures { (beside : Beside) (table : Table) → result ≡ length (siblings_online (room_of beside (core.now, table))) }
+    ensures { (beside : Beside) (table : Table) →
+        result ≡ length (siblings_online (room_of beside (core.now, table))) }
 {
     // It counts in words, since the compiler makes a vector of a count in bytes, which takes longer for so few.
     let mut count: usize = 0;
@@ -30,7 +31,8 @@ pub fn online_count<Q: SiblingQueue>(core: &Core<Q>) -> u8
 /// Whether SMT is off, as it is if fewer than two siblings are online (`sched_smt_present`). It looks at no more
 /// siblings than it has to.
 pub fn is_smt_off<Q: SiblingQueue>(core: &Core<Q>) -> bool
-    ensures { (beside : Beside) (table : Table) → result ≡ nat_lt (length (siblings_online (room_of beside (core.now, table)))) 2 }
+    ensures { (beside : Beside) (table : Table) →
+        result ≡ nat_lt (length (siblings_online (room_of beside (core.now, table)))) 2 }
 {
     let mut count: usize = 0;
     for lane in core.lanes.iter() {
@@ -45,7 +47,8 @@ pub fn is_smt_off<Q: SiblingQueue>(core: &Core<Q>) -> bool
 /// The lowest other sibling that is online.
 pub fn lowest_other<Q: SiblingQueue>(core: &Core<Q>, cpu: Cpu) -> Cpu
     requires some { 0 < length core.now.lanes.items }
-    ensures lowest { (beside : Beside) (table : Table) → result ≡ lowest_other (room_of beside (core.now, table)) cpu }
+    ensures lowest { (beside : Beside) (table : Table) →
+        result ≡ lowest_other (room_of beside (core.now, table)) cpu }
     ensures within { result < length core.now.lanes.items }
 {
     for other in 0..core.lanes.len() {
@@ -77,7 +80,8 @@ fn stand_by<Q: Drop>(lane: &mut Lane<Q>)
 /// The sibling is away, and each other online one is pending.
 pub fn set_one_away<Q: Drop>(lanes: &mut [Lane<Q>], cpu: Cpu)
     requires few { length lanes.old ≤ 16 }
-    ensures { ChangesLanes lanes.old lanes.new (λ siblings. map (left cpu) (enumerate_from 0 siblings)) }
+    ensures { ChangesLanes lanes.old lanes.new
+        (λ siblings. map (left cpu) (enumerate_from 0 siblings)) }
 {
     for (other, lane) in lanes.iter_mut().enumerate() {
         if other == cpu as usize {

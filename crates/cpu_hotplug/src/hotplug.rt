@@ -37,8 +37,10 @@ fn leave<Q: SiblingQueue, L: Ledger>(
     steps: &mut Steps<L>,
 )
     requires { MayLeaveAnother now cpu (core.old, table.old) }
-    ensures touches { ChargesAndTouches now (2 * length (queued_among table.old.tasks cpu)) (core.old, table.old) (core.new, table.new) (λ room. leave room cpu) }
-    ensures counted { ComparesFor (length table.old.tasks + 1) (core.old, table.old) steps.old steps.new }
+    ensures touches { ChargesAndTouches now (2 * length (queued_among table.old.tasks cpu))
+        (core.old, table.old) (core.new, table.new) (λ room. leave room cpu) }
+    ensures counted { ComparesFor (length table.old.tasks + 1)
+        (core.old, table.old) steps.old steps.new }
 {
     charge(core, table, now);
     core.account.close();
@@ -56,7 +58,8 @@ pub fn offline<Q: SiblingQueue, L: Ledger>(
 ) -> Hotplug
     requires { MayLeave now cpu (core.old, table.old) }
     ensures leaves { TakesOffline now (core.old, table.old) (core.new, table.new) cpu result }
-    ensures counted { ComparesFor (length table.old.tasks + 1) (core.old, table.old) steps.old steps.new }
+    ensures counted { ComparesFor (length table.old.tasks + 1)
+        (core.old, table.old) steps.old steps.new }
 {
     if !core.is_online(cpu) {
         return Hotplug::Already;

@@ -28,8 +28,10 @@ pub fn move_off<Q: SiblingQueue, L: Ledger>(
     steps: &mut Steps<L>,
 )
     requires { MayMoveOff cpu (core.old, table.old) }
-    ensures touches { Touches (2 * length (queued_among table.old.tasks cpu)) (core.old, table.old) (core.new, table.new) (λ room. move_off room cpu) }
-    ensures counted { ComparesFor (length table.old.tasks + 1) (core.old, table.old) steps.old steps.new }
+    ensures touches { Touches (2 * length (queued_among table.old.tasks cpu))
+        (core.old, table.old) (core.new, table.new) (λ room. move_off room cpu) }
+    ensures counted { ComparesFor (length table.old.tasks + 1)
+        (core.old, table.old) steps.old steps.new }
 {
     let count = core.lanes[cpu as usize].queue.count(table, cpu);
     if count == 0 {
@@ -94,7 +96,8 @@ fn move_past<Q: SiblingQueue, L: Ledger>(
     steps: &mut Steps<L>,
 )
     requires { MayMovePast cpu to stay movers.old (core.old, table.old) }
-    ensures touches { Touches (2 * length (queued_among table.old.tasks cpu)) (core.old, table.old) (core.new, table.new) (λ room. move_off room cpu) }
+    ensures touches { Touches (2 * length (queued_among table.old.tasks cpu))
+        (core.old, table.old) (core.new, table.new) (λ room. move_off room cpu) }
     ensures counted { ComparesFor (5 * stay + 3) (core.old, table.old) steps.old steps.new }
 {
     if stay == 0 {
@@ -121,7 +124,8 @@ fn move_queue<Q: SiblingQueue, L: Ledger>(
 )
     requires to { MayMoveAllTo cpu to movers.old (core.old, table.old) }
     requires whole { MovesWhole cpu to (core.old, table.old) }
-    ensures touches { Touches (2 * length (queued_among table.old.tasks cpu)) (core.old, table.old) (core.new, table.new) (λ room. move_off room cpu) }
+    ensures touches { Touches (2 * length (queued_among table.old.tasks cpu))
+        (core.old, table.old) (core.new, table.new) (λ room. move_off room cpu) }
     ensures counted { ComparesFor 3 (core.old, table.old) steps.old steps.new }
 {
     core.tell_queued(table, cpu, movers);
@@ -139,8 +143,10 @@ fn move_each<Q: SiblingQueue, L: Ledger>(
     steps: &mut Steps<L>,
 )
     requires { MayMoveAllTo cpu to movers.old (core.old, table.old) }
-    ensures touches { Touches (2 * length (queued_among table.old.tasks cpu)) (core.old, table.old) (core.new, table.new) (λ room. move_off room cpu) }
-    ensures counted { ComparesFor (length table.old.tasks) (core.old, table.old) steps.old steps.new }
+    ensures touches { Touches (2 * length (queued_among table.old.tasks cpu))
+        (core.old, table.old) (core.new, table.new) (λ room. move_off room cpu) }
+    ensures counted { ComparesFor (length table.old.tasks)
+        (core.old, table.old) steps.old steps.new }
 {
     core.empty_queue(table, cpu, movers);
     for mover in movers.iter() {

@@ -22,7 +22,8 @@ pub struct HasThreads;
 /// Whether the thread group has a member that is not its leader. It is seldom asked, and walks over the group.
 #[inline(never)]
 fn has_others(table: &TaskTable, leader: Pid) -> bool
-    ensures { result ≡ list_any (λ (task : SomeTask). (task.spec.tgid == leader) && not (has_pid leader task)) table.now.tasks }
+    ensures { result ≡ list_any (λ (task : SomeTask). (task.spec.tgid == leader)
+        && not (has_pid leader task)) table.now.tasks }
 {
     table
         .members(Group::Threads(leader))
@@ -34,7 +35,8 @@ fn has_others(table: &TaskTable, leader: Pid) -> bool
 #[inline(always)]
 pub fn has_threads(table: &TaskTable, task: &Task) -> bool
     requires { find (has_pid task.now.spec.pid) table.now.tasks ≡ Some task.now }
-    ensures { (room : RoomState) → room.tasks ≡ table.now.tasks → result ≡ has_threads room task.now }
+    ensures { (room : RoomState) → room.tasks ≡ table.now.tasks →
+        result ≡ has_threads room task.now }
 {
     let leader = task.spec.pid;
     if task.spec.tgid != leader {
@@ -58,9 +60,12 @@ fn end_alone(table: &mut TaskTable, refs: &mut CookieRefs, pid: Pid) -> (Task, u
 
     ensures task { find (has_pid pid) table.old.tasks ≡ Some result.0 }
     ensures forced { result.1 ≡ total_in table.old pid }
-    ensures ended { table.new ≡
-        record table.old { tasks = filter (λ other. not (has_pid pid other)) table.old.tasks; totals = table.new.totals } }
-    ensures totals { (other : ℕ) → total_in table.new other ≡ (if other == pid then 0 else total_in table.old other) }
+    ensures ended { table.new ≡ record table.old {
+      tasks = filter (λ other. not (has_pid pid other)) table.old.tasks;
+      totals = table.new.totals;
+    } }
+    ensures totals { (other : ℕ) →
+        total_in table.new other ≡ (if other == pid then 0 else total_in table.old other) }
 
     ensures agree { Agree refs.new table.new.tasks }
     ensures next { refs.new.next ≡ refs.old.next }
@@ -86,9 +91,12 @@ pub fn end(
     requires agree { Agree refs.old table.old.tasks }
 
     ensures answer { (room : RoomState) (task : SomeTask) → room.tasks ≡ table.old.tasks →
-        find (has_pid pid) table.old.tasks ≡ Some task → result ≡ end_answer room task (total_in table.old pid) }
-    ensures ended { OnOk result (table.new ≡
-        record table.old { tasks = filter (λ other. not (has_pid pid other)) table.old.tasks; totals = table.new.totals }) }
+        find (has_pid pid) table.old.tasks ≡ Some task →
+        result ≡ end_answer room task (total_in table.old pid) }
+    ensures ended { OnOk result (table.new ≡ record table.old {
+      tasks = filter (λ other. not (has_pid pid other)) table.old.tasks;
+      totals = table.new.totals;
+    }) }
     ensures totals { OnOk result ((other : ℕ) → total_in table.new other
         ≡ (if other == pid then 0 else total_in table.old other)) }
     ensures unchanged { OnErr result (table.new ≡ table.old) }

@@ -52,8 +52,10 @@ fn is_deadline(policy: Policy) -> bool
 fn insert(table: &mut TaskTable, spec: TaskSpec, cookie: Cookie)
     requires free { find (has_pid spec.pid) table.old.tasks ≡ None }
     requires spare { length table.old.tasks ≢ table.old.limit }
-    ensures inserted { table.new ≡
-        record table.old { tasks = inserted (record (asleep spec) { cookie = cookie }) table.old.tasks; totals = table.new.totals } }
+    ensures inserted { table.new ≡ record table.old {
+      tasks = inserted (record (asleep spec) { cookie = cookie }) table.old.tasks;
+      totals = table.new.totals;
+    } }
     ensures totals { (pid : ℕ) → total_in table.new pid ≡ total_in table.old pid }
     ensures sound { IsSound table.new }
 {
@@ -82,8 +84,10 @@ pub fn fork(
 
     ensures answer { result ≡ fork_answer table.old (find (has_pid caller) table.old.tasks) }
     ensures child { (by : SomeTask) → find (has_pid caller) table.old.tasks ≡ Some by →
-        OnOk result (table.new ≡
-        record table.old { tasks = inserted (child_of by thread child) table.old.tasks; totals = table.new.totals }) }
+        OnOk result (table.new ≡ record table.old {
+          tasks = inserted (child_of by thread child) table.old.tasks;
+          totals = table.new.totals;
+        }) }
     ensures totals { (pid : ℕ) → total_in table.new pid ≡ total_in table.old pid }
     ensures unchanged { OnErr result (table.new ≡ table.old) }
     ensures same_refs { OnErr result (refs.new ≡ refs.old) }

@@ -36,7 +36,8 @@ fn earlier(first: Task, task: Task) -> Task
 /// Lists the tasks of the table that are queued on the sibling, each by its stamp and its pid.
 fn tell(table: &TaskTable, cpu: Cpu, movers: &mut Stamped)
     requires places { length movers.old.items + length (queued_among table.now.tasks cpu) ≤ 256 }
-    ensures told { movers.new.items ≡ movers.old.items ++ map mover_of (queued_among table.now.tasks cpu) }
+    ensures told { movers.new.items
+        ≡ movers.old.items ++ map mover_of (queued_among table.now.tasks cpu) }
 {
     for task in table.iter() {
         if is_on(task, cpu) {

@@ -26,8 +26,10 @@ pub struct Called<'a> {
 #[inline(always)]
 fn named_by<'a>(table: &'a TaskTable, caller: &'a Task, pid: i32) -> Option<&'a Task>
     requires there { find (has_pid caller.now.spec.pid) table.now.tasks ≡ Some caller.now }
-    ensures named { (room : RoomState) → room.tasks ≡ table.now.tasks → option_copied result ≡ named_by room caller.now pid }
-    ensures there { IfSome result (λ task. find (has_pid task.now.spec.pid) table.now.tasks ≡ Some task.now) }
+    ensures named { (room : RoomState) → room.tasks ≡ table.now.tasks →
+        option_copied result ≡ named_by room caller.now pid }
+    ensures there { IfSome result
+        (λ task. find (has_pid task.now.spec.pid) table.now.tasks ≡ Some task.now) }
 {
     match u32::try_from(pid) {
         Ok(0) => Some(caller),
@@ -46,11 +48,13 @@ pub fn admit<'a, G: Guard>(
     ask: &Ask,
 ) -> Result<Called<'a>, Reply>
     requires asked { All (λ guard. guard.asked < 2 ^ 62) guards.old.guards.all }
-    ensures admits { (room : RoomState) → room.tasks ≡ table.now.tasks → nat_lt (length (siblings_online room)) 2 ≡ nat_lt online 2 →
+    ensures admits { (room : RoomState) → room.tasks ≡ table.now.tasks →
+        nat_lt (length (siblings_online room)) 2 ≡ nat_lt online 2 →
         room.guards ≡ guards.old.guards → Admits room caller ask.now result }
     ensures refused { IfErr result IsRefusal }
     ensures there { IfOk result (λ called. AreThere table.now called) }
-    ensures asked { (room : RoomState) → room.tasks ≡ table.now.tasks → nat_lt (length (siblings_online room)) 2 ≡ nat_lt online 2 →
+    ensures asked { (room : RoomState) → room.tasks ≡ table.now.tasks →
+        nat_lt (length (siblings_online room)) 2 ≡ nat_lt online 2 →
         room.guards ≡ guards.old.guards →
         guards.new.guards ≡ asked_each room.guards (asked_to_admit room caller ask.now result) }
     ensures counts { All (λ guard. guard.asked < 2 ^ 62 + 16) guards.new.guards.all }

@@ -26,8 +26,11 @@ fn may_access_all<G: Guard>(
 ) -> bool
     requires few { length table.now.tasks < 2 ^ 16 }
     requires asked { All (λ guard. guard.asked < 2 ^ 62 + 16) guards.old.guards.all }
-    ensures all { result ≡ list_all (λ member. may_access guards.old.guards caller.now member.spec) (filter (is_in_group group) table.now.tasks) }
-    ensures asked { guards.new.guards ≡ asked_each guards.old.guards (asked_about_all guards.old.guards caller.now (filter (is_in_group group) table.now.tasks)) }
+    ensures all { result ≡ list_all (λ member. may_access guards.old.guards caller.now member.spec)
+        (filter (is_in_group group) table.now.tasks) }
+    ensures asked { guards.new.guards
+        ≡ asked_each guards.old.guards (asked_about_all guards.old.guards caller.now
+        (filter (is_in_group group) table.now.tasks)) }
     ensures caps { guards.new.caps ≡ guards.old.caps }
 {
     for member in table.members(group) {
@@ -48,7 +51,8 @@ pub fn members<G: Guard>(
     requires few { length table.now.tasks < 2 ^ 16 }
     requires asked { All (λ guard. guard.asked < 2 ^ 62 + 16) guards.old.guards.all }
     ensures named { NamesMembers guards.old.guards table.now.tasks called.now result }
-    ensures asked { guards.new.guards ≡ asked_each guards.old.guards (asked_about_members_of guards.old.guards table.now.tasks called.now) }
+    ensures asked { guards.new.guards ≡ asked_each guards.old.guards
+        (asked_about_members_of guards.old.guards table.now.tasks called.now) }
     ensures caps { guards.new.caps ≡ guards.old.caps }
 {
     let target = called.target.spec;

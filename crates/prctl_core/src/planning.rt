@@ -56,7 +56,8 @@ fn get(called: &Called<'_>, addr: u64, user_top: u64) -> Planned
 fn give(refs: &mut CookieRefs, cookie: Cookie, to: Result<Target, Errno>) -> Planned
     requires held { cookie ≢ 0 → 0 < count_of refs.old cookie }
     ensures plan { result ≡ gift cookie to }
-    ensures agree { (tasks : _) → AgreeBut refs.old tasks cookie → AgreeBut refs.new tasks (held_by result) }
+    ensures agree { (tasks : _) → AgreeBut refs.old tasks cookie →
+        AgreeBut refs.new tasks (held_by result) }
     ensures next { refs.new.next ≡ refs.old.next }
     ensures limit { refs.new.limit ≡ refs.old.limit }
 {
@@ -87,7 +88,8 @@ fn create<G: Guard>(
     ensures full { length (live_cookies table.now.tasks) ≡ refs.old.limit →
         IsFull refs.old refs.new guards.old.guards guards.new.guards result }
     ensures made { length (live_cookies table.now.tasks) ≢ refs.old.limit →
-        IsMade refs.old refs.new guards.old.guards guards.new.guards table.now.tasks called.now result }
+        IsMade refs.old refs.new guards.old.guards guards.new.guards
+        table.now.tasks called.now result }
     ensures agree { AgreeBut refs.new table.now.tasks (held_by result) }
     ensures limit { refs.new.limit ≡ refs.old.limit }
     ensures caps { guards.new.caps ≡ guards.old.caps }
@@ -143,13 +145,18 @@ pub fn plan<G: Guard>(
 
     // In each room of which these are the parts, this is the answer, and so are the cookies set. If a
     // cookie is made, its number is used, and these guards were asked.
-    ensures answer { (room : RoomState) → IsRoomOf room table.now refs.old guards.old.guards online user_top →
+    ensures answer { (room : RoomState) →
+        IsRoomOf room table.now refs.old guards.old.guards online user_top →
         prctl_answer room caller ask.now ≡ reply_of result }
-    ensures sets { (room : RoomState) → IsRoomOf room table.now refs.old guards.old.guards online user_top →
+    ensures sets { (room : RoomState) →
+        IsRoomOf room table.now refs.old guards.old.guards online user_top →
         SetsIn room caller ask.now result }
-    ensures serial { (room : RoomState) → IsRoomOf room table.now refs.old guards.old.guards online user_top →
-        refs.new.next ≡ (with_used room (makes_cookie room caller ask.now) (asked_by_call room caller ask.now)).next_cookie }
-    ensures asked { (room : RoomState) → IsRoomOf room table.now refs.old guards.old.guards online user_top →
+    ensures serial { (room : RoomState) →
+        IsRoomOf room table.now refs.old guards.old.guards online user_top →
+        refs.new.next ≡ (with_used room (makes_cookie room caller ask.now)
+        (asked_by_call room caller ask.now)).next_cookie }
+    ensures asked { (room : RoomState) →
+        IsRoomOf room table.now refs.old guards.old.guards online user_top →
         guards.new.guards ≡ asked_each room.guards (asked_by_call room caller ask.now) }
 
     // It goes exactly if the call succeeds, and then holds a reference to its cookie.

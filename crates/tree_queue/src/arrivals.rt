@@ -85,7 +85,8 @@ impl Arrivals {
     pub fn tell(&self, table: &TaskTable, cpu: Cpu, count: usize, movers: &mut [Pid]) -> bool
         requires each { length movers.old ≡ count }
         requires count { count ≡ length (queued_among table.now.tasks cpu) }
-        ensures told { IsTrue result → AreTold (map mover_of (queued_among table.now.tasks cpu)) movers.new }
+        ensures told { IsTrue result →
+            AreTold (map mover_of (queued_among table.now.tasks cpu)) movers.new }
         ensures each { length movers.new ≡ length movers.old }
     {
         let moved = self.moved();
@@ -137,10 +138,12 @@ fn tell_moved(
     before: usize,
 ) -> usize
     requires each { length movers.old ≡ length (queued_among table.now.tasks cpu) }
-    requires lower { BeginsBelow (map mover_of (queued_among table.now.tasks cpu)) base before movers.old }
+    requires lower { BeginsBelow (map mover_of (queued_among table.now.tasks cpu))
+        base before movers.old }
     requires low { base + length moved.now < 2 ^ 64 }
     ensures each { length movers.new ≡ length movers.old }
-    ensures below { BeginsBelow (map mover_of (queued_among table.now.tasks cpu)) (base + length moved.now) result movers.new }
+    ensures below { BeginsBelow (map mover_of (queued_among table.now.tasks cpu))
+        (base + length moved.now) result movers.new }
 {
     let mut told = before;
     let mut place = 0;
@@ -159,7 +162,8 @@ fn tell_moved(
 #[inline(always)]
 fn copy_behind(movers: &mut [Pid], told: usize, run: &[Pid])
     requires { told + length run.now ≤ length movers.old }
-    ensures { movers.new ≡ take told movers.old ++ run.now ++ drop (told + length run.now) movers.old }
+    ensures { movers.new ≡ take told movers.old ++ run.now
+        ++ drop (told + length run.now) movers.old }
 {
     movers[told..told + run.len()].copy_from_slice(run);
 }
@@ -171,7 +175,8 @@ fn count_there(moved: &[Pid], base: u64, table: &TaskTable, cpu: Cpu) -> usize
     requires low { base + length moved.now < 2 ^ 64 }
     ensures within { result ≤ length moved.now }
     ensures there { (place : ℕ) → place < result →
-        Contains (map mover_of (queued_among table.now.tasks cpu)) (base + place, slice_index_or moved.now place 0) }
+        Contains (map mover_of (queued_among table.now.tasks cpu))
+        (base + place, slice_index_or moved.now place 0) }
 {
     for (place, pid) in moved.iter().enumerate() {
         if !is_there(table, cpu, base + place as u64, *pid) {
@@ -194,10 +199,12 @@ fn tell_entries(
     before: usize,
 ) -> usize
     requires each { length movers.old ≡ length (queued_among table.now.tasks cpu) }
-    requires below { BeginsBelow (map mover_of (queued_among table.now.tasks cpu)) past before movers.old }
+    requires below { BeginsBelow (map mover_of (queued_among table.now.tasks cpu))
+        past before movers.old }
     requires order { past ≤ until }
     ensures each { length movers.new ≡ length movers.old }
-    ensures below { BeginsBelow (map mover_of (queued_among table.now.tasks cpu)) until result movers.new }
+    ensures below { BeginsBelow (map mover_of (queued_among table.now.tasks cpu))
+        until result movers.new }
 {
     let mut told = before;
     let mut above = past;
@@ -227,7 +234,8 @@ fn after(stamp: u64) -> u64
 /// Whether there is a task with this pid that is queued on the sibling since it was given this stamp.
 #[inline(always)]
 fn is_there(table: &TaskTable, cpu: Cpu, stamp: u64, pid: Pid) -> bool
-    ensures { IsTrue result → Contains (map mover_of (queued_among table.now.tasks cpu)) (stamp, pid) }
+    ensures { IsTrue result →
+        Contains (map mover_of (queued_among table.now.tasks cpu)) (stamp, pid) }
 {
     let Some(task) = table.find(pid) else {
         return false;

@@ -17,7 +17,12 @@ use task_table::TaskTable;
 /// The key of the task, as one tree of all tasks of its sibling would have it.
 #[inline(always)]
 fn key_of(task: &Queued) -> Key
-    ensures { result ≡ record { group = 0; class = task.now.class; rank = task.now.rank; stamp = task.now.stamp } }
+    ensures { result ≡ record {
+      group = 0;
+      class = task.now.class;
+      rank = task.now.rank;
+      stamp = task.now.stamp;
+    } }
 {
     Key {
         group: 0,
@@ -80,7 +85,8 @@ pub fn find_first<L: Ledger>(
     table: &TaskTable,
     steps: &mut Steps<L>,
 ) -> Option<Queued>
-    ensures first { (tasks : List SomeQueued) → run.now.tasks ≡ seated tasks → All (IsIn table.now.tasks) tasks → result ≡ first_among tasks }
+    ensures first { (tasks : List SomeQueued) → run.now.tasks ≡ seated tasks →
+        All (IsIn table.now.tasks) tasks → result ≡ first_among tasks }
     ensures counted { steps.new ≤ steps.old + most_comparisons (map.len run.now.tasks) + 6 }
 {
     let task = table.find(run.first(steps)?)?;
@@ -94,7 +100,8 @@ pub fn find_first_with<L: Ledger>(
     table: &TaskTable,
     steps: &mut Steps<L>,
 ) -> Option<Queued>
-    ensures first { (tasks : List SomeQueued) → run.now.tasks ≡ seated tasks → All (IsInBut table.now.tasks task) tasks → result ≡ first_among tasks }
+    ensures first { (tasks : List SomeQueued) → run.now.tasks ≡ seated tasks →
+        All (IsInBut table.now.tasks task) tasks → result ≡ first_among tasks }
     ensures counted { steps.new ≤ steps.old + most_comparisons (map.len run.now.tasks) + 6 }
 {
     let pid = run.first(steps)?;

@@ -39,7 +39,8 @@ impl SiblingQueue for TreeQueue {
     ghost use Rattle.cs_types.proofs.Comparisons.{most_comparisons-le};
     ghost use Rattle.std.proofs.Math.Nat.{mul-le-mul_left};
 
-    ghost holds = { λ queue most tasks. Keeps queue.run queue.first queue.kinds queue.lots most tasks };
+    ghost holds = { λ queue most tasks. Keeps queue.run
+        queue.first queue.kinds queue.lots most tasks };
 
     ghost most_compared = { most_of_call };
 
