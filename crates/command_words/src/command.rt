@@ -39,7 +39,8 @@ const FORMS: [CommandForm<'static>; 3] = [
 /// The command of this name and seed, if there is one.
 fn named(name: &str, seed: Option<&str>) -> Option<Command>
     ensures { (command : Command) → (result ≡ Some command)
-        ↔ ((words_by name.now (option_map (λ text. text.now) seed.entry) ≡ words_of command) × HasSeed command) }
+        ↔ ((words_by name.now (option_map (λ text. text.now) seed.entry) ≡ words_of command)
+        × HasSeed command) }
 {
     match (name, seed) {
         ("replay", None) => Some(Command::Replay),

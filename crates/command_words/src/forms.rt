@@ -41,7 +41,8 @@ fn form_of<'a>(forms: &[CommandForm<'a>], name: &str) -> Option<CommandForm<'a>>
 
 /// The name and the value, by a look at the words letter by letter. It takes no memory.
 fn spelled<'a>(forms: &[CommandForm], words: &'a [String]) -> Option<(&'a str, Option<&'a str>)>
-    ensures { option_map words_of result ≡ then_some (is_command forms.now (map string_bytes words.now)) (map string_bytes words.now) }
+    ensures { option_map words_of result ≡ then_some
+        (is_command forms.now (map string_bytes words.now)) (map string_bytes words.now) }
 {
     let (name, values) = words.split_first()?;
     let name = name.as_str();
@@ -59,7 +60,8 @@ pub fn read_words<'a>(
     forms: &[CommandForm<'a>],
     words: &'a [String],
 ) -> Option<(&'a str, Option<&'a str>)>
-    ensures { option_map words_of result ≡ then_some (is_plain_command forms.now (map string_bytes words.now)) (map string_bytes words.now) }
+    ensures { option_map words_of result ≡ then_some
+        (is_plain_command forms.now (map string_bytes words.now)) (map string_bytes words.now) }
 {
     if has_option(words) {
         return None;

@@ -17,7 +17,8 @@ use std::alloc::{AllocError, Global};
 
 /// A command of this form.
 fn command<'a>(alloc: Global, form: CommandForm<'a>) -> Result<Command<'a>, AllocError>
-    ensures { IfOk result (λ command. (app_of command ≡ record { top = command_of form.entry.name.now form.entry.takes_value; subs = [] })
+    ensures { IfOk result (λ command. (app_of command
+        ≡ record { top = command_of form.entry.name.now form.entry.takes_value; subs = [] })
         × ((fields_of command).has_globals ≡ false)) }
 {
     let command = Command::new(alloc, form.name);
@@ -34,7 +35,8 @@ fn grammar<'a>(
     program: &'a str,
     forms: &[CommandForm<'a>],
 ) -> Result<Command<'a>, AllocError>
-    ensures { IfOk result (λ grammar. app_of grammar ≡ grammar_of (is_empty forms.now) program.now forms.now) }
+    ensures { IfOk result
+        (λ grammar. app_of grammar ≡ grammar_of (is_empty forms.now) program.now forms.now) }
 {
     let mut grammar = Command::new(alloc, program)
         .no_binary_name(true)
@@ -64,7 +66,8 @@ pub(crate) fn parsed<'a>(
     words: &'a [String],
 ) -> Result<Option<(&'a str, Option<&'a str>)>, AllocError>
     requires { list_any is_option (map string_bytes words.now) ≡ false }
-    ensures { IfOk result (λ read. option_map words_of read ≡ then_some (is_command forms.now (map string_bytes words.now)) (map string_bytes words.now)) }
+    ensures { IfOk result (λ read. option_map words_of read ≡ then_some
+        (is_command forms.now (map string_bytes words.now)) (map string_bytes words.now)) }
 {
     let grammar = grammar(alloc, program, forms)?;
     match grammar.try_get_matches_from(words) {

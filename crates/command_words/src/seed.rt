@@ -6,7 +6,8 @@ use itoa::Buffer;
 
 /// The number below 2^32 that the word spells in decimal: with no sign, and with no leading 0 but in `0` itself.
 pub(crate) fn canonical(word: &str) -> Option<u32>
-    ensures spelled { (seed : ℕ) → (result ≡ Some seed) ↔ ((word.now ≡ decimal seed) × (seed < 2 ^ 32)) }
+    ensures spelled { (seed : ℕ) → (result ≡ Some seed)
+        ↔ ((word.now ≡ decimal seed) × (seed < 2 ^ 32)) }
 {
     let number = word.parse::<u32>().ok()?;
     let mut buffer = Buffer::new();

@@ -26,7 +26,8 @@ pub(crate) fn passes_of<R: Room>(
     requires fair { AreLists (R.opening top.now.key.value.room).scenario.siblings lists }
     requires fits { steps_in lists < 2 ^ 64 }
 
-    ensures { IfOk result (λ passes. passes ≡ fresh_passes (lock_of R.opening R.spare top.now.table_id top.now.key.value)) }
+    ensures { IfOk result (λ passes. passes
+        ≡ fresh_passes (lock_of R.opening R.spare top.now.table_id top.now.key.value)) }
 {
     let mut passes = Vec::new(alloc);
     for steps in lists.into_vec() {

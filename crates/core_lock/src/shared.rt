@@ -30,9 +30,11 @@ impl<R: Room> Model for Shared<R> {
 
     ghost Value = { Lock };
 
-    ghost view = { λ shared. lock_of R.opening R.spare shared.board.shared.table_id shared.board.shared.key.value };
+    ghost view = { λ shared. lock_of R.opening R.spare
+        shared.board.shared.table_id shared.board.shared.key.value };
 
-    ghost invariant = { λ shared. (shared.board.shared.table_id.words ≡ 2) × (shared.board.shared.table_id.slots ≡ 1)
+    ghost invariant = { λ shared. (shared.board.shared.table_id.words ≡ 2)
+        × (shared.board.shared.table_id.slots ≡ 1)
         × (0 < length shared.board.shared.key.value.lists) };
 }
 
@@ -130,7 +132,8 @@ impl<R: Room> Shared<R> {
     /// The passes are of this lock, and the number of each list stands among them.
     pub fn finish(self, passes: List<Pass<R>>) -> R
         requires lock { All (λ pass. pass.lock ≡ self) passes }
-        requires numbers { (number : ℕ) → number < length self.lists → Contains (map (λ pass. pass.progress.number) passes) number }
+        requires numbers { (number : ℕ) → number < length self.lists →
+            Contains (map (λ pass. pass.progress.number) passes) number }
 
         ensures opening { R.opening result ≡ self.opening }
         ensures spare { R.spare result + length (R.history result) ≡ self.spare }
@@ -142,7 +145,8 @@ impl<R: Room> Shared<R> {
         ensures seen { All (λ pass. IsPrefix pass.progress.seen (R.history result)) passes }
         ensures own { All (λ pass. HasOwn pass (R.history result)) passes }
         ensures noted { All (λ pass. pass.progress.note ≤ length (R.history result)) passes }
-        ensures no_other { (actor : _) → HasNoList self.lists actor → events_by actor (R.history result) ≡ [] }
+        ensures no_other { (actor : _) → HasNoList self.lists actor →
+            events_by actor (R.history result) ≡ [] }
     {
         let Shared { board } = self;
         let seat = joined(&board.shared, passes);

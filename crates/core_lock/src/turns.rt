@@ -32,10 +32,14 @@ pub(crate) fn let_others_go<R: Room>(top: &Top<R>)
 
 /// Draws a ticket for the next step of the seat's list.
 pub(crate) fn draw<R: Room>(top: &Top<R>, seat: &mut Place<R>) -> u64
-    requires table { (seat.old.table_id ≡ top.now.table_id) × (seat.old.table_id.words ≡ 2) × (seat.old.table_id.slots ≡ 1) }
-    requires ready { (begun : Beginning R) × (has : Progress) × (seat.old.me ≡ (Idle begun (has ∷ []), [])) × (has.made < length (list_at begun.lists has.number)) }
+    requires table { (seat.old.table_id ≡ top.now.table_id)
+        × (seat.old.table_id.words ≡ 2) × (seat.old.table_id.slots ≡ 1) }
+    requires ready { (begun : Beginning R) × (has : Progress)
+        × (seat.old.me ≡ (Idle begun (has ∷ []), []))
+        × (has.made < length (list_at begun.lists has.number)) }
     ensures table { seat.new.table_id ≡ seat.old.table_id }
-    ensures drawn { (begun : Beginning R) (has : Progress) → seat.old.me ≡ (Idle begun (has ∷ []), []) → seat.new.me ≡ (Waiting begun has result, []) }
+    ensures drawn { (begun : Beginning R) (has : Progress) →
+        seat.old.me ≡ (Idle begun (has ∷ []), []) → seat.new.me ≡ (Waiting begun has result, []) }
 {
     top.fetch_add::<Draw>(seat, TICKET, 1)
 }
@@ -43,10 +47,13 @@ pub(crate) fn draw<R: Room>(top: &Top<R>, seat: &mut Place<R>) -> u64
 /// Waits until the ticket is served, and takes the room. It spins for a while, and then yields the processor
 /// between two looks.
 pub(crate) fn take_turn<R: Room, W: Wait>(rt: &W, top: &Top<R>, seat: &mut Place<R>, ticket: u64)
-    requires table { (seat.old.table_id ≡ top.now.table_id) × (seat.old.table_id.words ≡ 2) × (seat.old.table_id.slots ≡ 1) }
-    requires waits { (begun : Beginning R) × (has : Progress) × (seat.old.me ≡ (Waiting begun has ticket, [])) }
+    requires table { (seat.old.table_id ≡ top.now.table_id)
+        × (seat.old.table_id.words ≡ 2) × (seat.old.table_id.slots ≡ 1) }
+    requires waits { (begun : Beginning R) × (has : Progress)
+        × (seat.old.me ≡ (Waiting begun has ticket, [])) }
     ensures table { seat.new.table_id ≡ seat.old.table_id }
-    ensures turn { (begun : Beginning R) (has : Progress) → seat.old.me ≡ (Waiting begun has ticket, []) →
+    ensures turn { (begun : Beginning R) (has : Progress) →
+        seat.old.me ≡ (Waiting begun has ticket, []) →
         (room : R) × HasTurn R.opening R.history R.spare begun has ticket room seat.new.me }
 {
     let backoff = Backoff::new();
@@ -61,11 +68,15 @@ pub(crate) fn take_turn<R: Room, W: Wait>(rt: &W, top: &Top<R>, seat: &mut Place
 
 /// Makes the step in the room, gives the room back, and serves the next ticket.
 pub(crate) fn make_step<R: Room>(top: &Top<R>, seat: &mut Place<R>, step: Step) -> Reply
-    requires table { (seat.old.table_id ≡ top.now.table_id) × (seat.old.table_id.words ≡ 2) × (seat.old.table_id.slots ≡ 1) }
-    requires turn { (begun : Beginning R) × (has : Progress) × (ticket : ℕ) × (room : R) × HasTurn R.opening R.history R.spare begun has ticket room seat.old.me
-        × (slice_get (list_at begun.lists has.number) has.made ≡ Some step) × IsEvent (R.opening begun.room).scenario.siblings step.event }
+    requires table { (seat.old.table_id ≡ top.now.table_id)
+        × (seat.old.table_id.words ≡ 2) × (seat.old.table_id.slots ≡ 1) }
+    requires turn { (begun : Beginning R) × (has : Progress) × (ticket : ℕ)
+        × (room : R) × HasTurn R.opening R.history R.spare begun has ticket room seat.old.me
+        × (slice_get (list_at begun.lists has.number) has.made ≡ Some step)
+        × IsEvent (R.opening begun.room).scenario.siblings step.event }
     ensures table { seat.new.table_id ≡ seat.old.table_id }
-    ensures made { (begun : Beginning R) (has : Progress) (ticket : ℕ) (room : R) → HasTurn R.opening R.history R.spare begun has ticket room seat.old.me →
+    ensures made { (begun : Beginning R) (has : Progress) (ticket : ℕ) (room : R) →
+        HasTurn R.opening R.history R.spare begun has ticket room seat.old.me →
         HasMade R.opening begun has (R.history room) step result seat.new.me }
 {
     let mut room = top.exchange(seat, 0, None).unwrap();

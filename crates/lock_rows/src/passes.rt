@@ -322,7 +322,8 @@ fn expect_scripts<
     requires scenario { (M.opening room).scenario ≡ scenario.now }
     requires opening { M.opening room ≡ N.opening }
     requires empty { M.history room ≡ [] }
-    requires spare { length scenario.now.steps + scenario.now.siblings * scenario.now.siblings ≤ M.spare room }
+    requires spare { length scenario.now.steps + scenario.now.siblings * scenario.now.siblings
+        ≤ M.spare room }
 {
     let lock = Mutex::new(Scripted::<M, N>::of(rt.alloc(), room, scenario).expect(rt, "room"));
     let made = thread::join(
@@ -345,7 +346,8 @@ fn expect_scripted<R: Threads + Wait + AllocGlobal + Sync + Abort, M: Room + Sen
     requires playable { IsPlayable scenario.now }
     requires scenario { (M.opening room).scenario ≡ scenario.now }
     requires empty { M.history room ≡ [] }
-    requires spare { length scenario.now.steps + scenario.now.siblings * scenario.now.siblings ≤ M.spare room }
+    requires spare { length scenario.now.steps + scenario.now.siblings * scenario.now.siblings
+        ≤ M.spare room }
 {
     expect_scripts::<Brand, R, M>(rt, room, scenario);
 }

@@ -66,8 +66,10 @@ fn expect_same_runs<R: AllocGlobal + Abort, A: Room, B: Room>(
     requires scenario_of_other { (B.opening other).scenario ≡ scenario.now }
     requires first_of_one { A.history one ≡ [] }
     requires first_of_other { B.history other ≡ [] }
-    requires spare_of_one { A.spare one ≡ length scenario.now.steps + scenario.now.siblings * scenario.now.siblings }
-    requires spare_of_other { B.spare other ≡ length scenario.now.steps + scenario.now.siblings * scenario.now.siblings }
+    requires spare_of_one { A.spare one
+        ≡ length scenario.now.steps + scenario.now.siblings * scenario.now.siblings }
+    requires spare_of_other { B.spare other
+        ≡ length scenario.now.steps + scenario.now.siblings * scenario.now.siblings }
 {
     play(&mut one, scenario.steps.items());
     play(&mut other, scenario.steps.items());

@@ -23,7 +23,8 @@ impl Model for ListGuard {
 
     ghost Value = { ListGuardState };
 
-    ghost view = { λ guard. record { pairs = guard.pairs.items; cap = guard.cap; asked = guard.asked } };
+    ghost view = { λ guard.
+        record { pairs = guard.pairs.items; cap = guard.cap; asked = guard.asked } };
 
     ghost invariant = { λ guard. vec_len guard.pairs ≤ guard.cap };
 }
@@ -54,7 +55,8 @@ impl Guard for ListGuard {
     fn teach(&mut self, from: u32, to: u32) -> Result<(), TeachFault>
         ensures below { OnOk result (length self.old.pairs < self.old.cap) }
         ensures full { IfErr result (FullExactlyAt self.old.cap (length self.old.pairs)) }
-        ensures taught { OnOk result (self.new ≡ record self.old { pairs = self.old.pairs ++ (from, to) ∷ [] }) }
+        ensures taught { OnOk result (self.new
+            ≡ record self.old { pairs = self.old.pairs ++ (from, to) ∷ [] }) }
         ensures untaught { OnErr result (self.new ≡ self.old) }
     {
         if self.pairs.len() == self.cap as usize {

@@ -96,13 +96,16 @@ impl Sink for MemSink {
 
         ensures some { IfOk result (λ n. 0 < n) }
         ensures within { IfOk result (λ n. n ≤ length piece.now) }
-        ensures appended { IfOk result (λ n. self.new.written ≡ self.old.written ++ take n piece.now) }
+        ensures appended { IfOk result
+            (λ n. self.new.written ≡ self.old.written ++ take n piece.now) }
         ensures failed { OnErr result (Rose self.old.faults self.new.faults) }
         ensures unwritten { OnErr result (self.new.written ≡ self.old.written) }
         ensures counted { self.old.faults ≤ self.new.faults }
 
-        ensures fails { IsErr result ↔ (Contains self.old.fails (raised self.old.calls) ⊎ (self.old.spare ≡ 0)) }
-        ensures count { IfOk result (λ n. n ≡ min (min (length piece.now) self.old.spare) self.old.most) }
+        ensures fails { IsErr result
+            ↔ (Contains self.old.fails (raised self.old.calls) ⊎ (self.old.spare ≡ 0)) }
+        ensures count { IfOk result
+            (λ n. n ≡ min (min (length piece.now) self.old.spare) self.old.most) }
         ensures ok { IfOk result (λ n. self.new ≡ record self.old {
           written = self.old.written ++ take n piece.now;
           spare = self.old.spare - n;

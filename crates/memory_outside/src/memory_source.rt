@@ -40,7 +40,13 @@ impl MemSource {
     /// counted from 1, is one of `fails`.
     pub fn of(bytes: Vec<u8>, most: usize, fails: Vec<u64>) -> MemSource
         requires { 0 < most }
-        ensures { result ≡ record { left = bytes.items; most = most; fails = fails.items; calls = 0; faults = 0 } }
+        ensures { result ≡ record {
+          left = bytes.items;
+          most = most;
+          fails = fails.items;
+          calls = 0;
+          faults = 0;
+        } }
     {
         MemSource {
             bytes,
@@ -78,7 +84,8 @@ impl Source for MemSource {
         ensures counted { self.old.faults ≤ self.new.faults }
 
         ensures fails { IsErr result ↔ Contains self.old.fails (raised self.old.calls) }
-        ensures count { IfOk result (λ n. n ≡ min (min (length self.old.left) (length buf.old)) self.old.most) }
+        ensures count { IfOk result
+            (λ n. n ≡ min (min (length self.old.left) (length buf.old)) self.old.most) }
         ensures ok { IfOk result (λ n. self.new ≡ record self.old {
           left = drop n self.old.left;
           calls = raised self.old.calls;

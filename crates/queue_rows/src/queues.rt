@@ -88,7 +88,8 @@ fn expect_two<L: Ledger, R: Abort, Q: ClassQueue>(rt: &R, mut queue: Q, steps: &
 /// A task with this pid, of this class, at rank 0, whose stamp is its pid, with this cookie.
 fn queued(pid: Pid, class: u8, cookie: Cookie) -> Queued
     requires { class ≤ fair_class }
-    ensures is { result ≡ record { pid = pid; class = class; rank = 0; stamp = pid; cookie = cookie } }
+    ensures is { result
+        ≡ record { pid = pid; class = class; rank = 0; stamp = pid; cookie = cookie } }
     ensures ranked { IsRanked result }
 {
     Queued {

@@ -13,7 +13,8 @@ use std::alloc::Global;
 /// `count` tasks, with the pids from 1 on.
 fn tasks(alloc: Global, count: u32, generator: &mut Generator) -> Result<Vec<TaskSpec>, OutOfMemory>
     requires { count < u32.MAX }
-    ensures { IfOk result (λ tasks. (tasks.items, generator.new) ≡ in_turn 1 count drawn_task generator.old) }
+    ensures { IfOk result
+        (λ tasks. (tasks.items, generator.new) ≡ in_turn 1 count drawn_task generator.old) }
 {
     let mut tasks = Vec::with_capacity(alloc, count as usize)?;
     for index in 0..count {
@@ -24,7 +25,8 @@ fn tasks(alloc: Global, count: u32, generator: &mut Generator) -> Result<Vec<Tas
 
 /// `count` steps.
 fn steps(alloc: Global, count: u32, generator: &mut Generator) -> Result<Vec<Step>, OutOfMemory>
-    ensures { IfOk result (λ steps. (steps.items, generator.new) ≡ in_turn 1 count (λ number. drawn_step) generator.old) }
+    ensures { IfOk result (λ steps. (steps.items, generator.new)
+        ≡ in_turn 1 count (λ number. drawn_step) generator.old) }
 {
     let mut steps = Vec::with_capacity(alloc, count as usize)?;
     for _ in 0..count {

@@ -56,8 +56,10 @@ fn steals_line(tally: Tally) -> Line
 /// took only a part. At an `Err` the sink has failed, and a prefix of the text is written. It takes no
 /// memory.
 pub fn summary<R: Room, K: Sink>(seed: u32, room: &R, sink: &mut K) -> Result<(), Failed>
-    ensures ok { OnOk result (K.written sink.new ≡ appended (K.written sink.old) (summary_text seed (R.opening room.now) (R.history room.now))) }
-    ensures prefix { WritesPrefix (K.written sink.old) (summary_text seed (R.opening room.now) (R.history room.now)) (K.written sink.new) }
+    ensures ok { OnOk result (K.written sink.new ≡ appended
+        (K.written sink.old) (summary_text seed (R.opening room.now) (R.history room.now))) }
+    ensures prefix { WritesPrefix (K.written sink.old)
+        (summary_text seed (R.opening room.now) (R.history room.now)) (K.written sink.new) }
     ensures faultless { OnOk result (K.faults sink.new ≡ K.faults sink.old) }
     ensures failed { OnErr result (Rose (K.faults sink.old) (K.faults sink.new)) }
     ensures counted { K.faults sink.old ≤ K.faults sink.new }

@@ -13,7 +13,8 @@ use scenario_text::Line;
 ///
 /// At an `Err` the sink has failed, and a prefix of the line is written.
 pub fn entry_text<K: Sink>(entry: &Entry, line: &mut Line, sink: &mut K) -> Result<(), Failed>
-    ensures ok { OnOk result (K.written sink.new ≡ appended (K.written sink.old) (entry_text entry.now)) }
+    ensures ok { OnOk result (K.written sink.new
+        ≡ appended (K.written sink.old) (entry_text entry.now)) }
     ensures prefix { WritesPrefix (K.written sink.old) (entry_text entry.now) (K.written sink.new) }
 
     ensures faultless { OnOk result (K.faults sink.new ≡ K.faults sink.old) }

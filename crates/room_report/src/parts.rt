@@ -20,8 +20,10 @@ use scenario_text::Line;
 
 /// The line of each entry.
 pub(crate) fn write_entries<R: Room, K: Sink>(room: &R, sink: &mut K) -> Result<(), Failed>
-    ensures ok { OnOk result (K.written sink.new ≡ appended (K.written sink.old) (flat_map entry_text (R.history room.now))) }
-    ensures prefix { WritesPrefix (K.written sink.old) (flat_map entry_text (R.history room.now)) (K.written sink.new) }
+    ensures ok { OnOk result (K.written sink.new
+        ≡ appended (K.written sink.old) (flat_map entry_text (R.history room.now))) }
+    ensures prefix { WritesPrefix (K.written sink.old)
+        (flat_map entry_text (R.history room.now)) (K.written sink.new) }
 
     ensures faultless { OnOk result (K.faults sink.new ≡ K.faults sink.old) }
     ensures failed { OnErr result (Rose (K.faults sink.old) (K.faults sink.new)) }
@@ -42,8 +44,10 @@ pub(crate) fn write_entries<R: Room, K: Sink>(room: &R, sink: &mut K) -> Result<
 
 /// The first lines of the report, on the whole core.
 pub(crate) fn write_core<R: Room, K: Sink>(room: &R, sink: &mut K) -> Result<(), Failed>
-    ensures ok { OnOk result (K.written sink.new ≡ appended (K.written sink.old) (part_text core_lines (R.opening room.now) (R.history room.now))) }
-    ensures prefix { WritesPrefix (K.written sink.old) (part_text core_lines (R.opening room.now) (R.history room.now)) (K.written sink.new) }
+    ensures ok { OnOk result (K.written sink.new ≡ appended
+        (K.written sink.old) (part_text core_lines (R.opening room.now) (R.history room.now))) }
+    ensures prefix { WritesPrefix (K.written sink.old)
+        (part_text core_lines (R.opening room.now) (R.history room.now)) (K.written sink.new) }
 
     ensures faultless { OnOk result (K.faults sink.new ≡ K.faults sink.old) }
     ensures failed { OnErr result (Rose (K.faults sink.old) (K.faults sink.new)) }
@@ -60,8 +64,10 @@ pub(crate) fn write_core<R: Room, K: Sink>(room: &R, sink: &mut K) -> Result<(),
 
 /// The line of each sibling.
 pub(crate) fn write_siblings<R: Room, K: Sink>(room: &R, sink: &mut K) -> Result<(), Failed>
-    ensures ok { OnOk result (K.written sink.new ≡ appended (K.written sink.old) (part_text cpu_lines (R.opening room.now) (R.history room.now))) }
-    ensures prefix { WritesPrefix (K.written sink.old) (part_text cpu_lines (R.opening room.now) (R.history room.now)) (K.written sink.new) }
+    ensures ok { OnOk result (K.written sink.new ≡ appended
+        (K.written sink.old) (part_text cpu_lines (R.opening room.now) (R.history room.now))) }
+    ensures prefix { WritesPrefix (K.written sink.old)
+        (part_text cpu_lines (R.opening room.now) (R.history room.now)) (K.written sink.new) }
 
     ensures faultless { OnOk result (K.faults sink.new ≡ K.faults sink.old) }
     ensures failed { OnErr result (Rose (K.faults sink.old) (K.faults sink.new)) }
@@ -81,8 +87,10 @@ pub(crate) fn write_siblings<R: Room, K: Sink>(room: &R, sink: &mut K) -> Result
 pub(crate) fn write_tasks<R: Room, K: Sink>(room: &R, sink: &mut K) -> Result<(), Failed>
     requires { IsPlayable (R.opening room.now).scenario }
 
-    ensures ok { OnOk result (K.written sink.new ≡ appended (K.written sink.old) (part_text task_lines (R.opening room.now) (R.history room.now))) }
-    ensures prefix { WritesPrefix (K.written sink.old) (part_text task_lines (R.opening room.now) (R.history room.now)) (K.written sink.new) }
+    ensures ok { OnOk result (K.written sink.new ≡ appended
+        (K.written sink.old) (part_text task_lines (R.opening room.now) (R.history room.now))) }
+    ensures prefix { WritesPrefix (K.written sink.old)
+        (part_text task_lines (R.opening room.now) (R.history room.now)) (K.written sink.new) }
 
     ensures faultless { OnOk result (K.faults sink.new ≡ K.faults sink.old) }
     ensures failed { OnErr result (Rose (K.faults sink.old) (K.faults sink.new)) }
@@ -98,8 +106,10 @@ pub(crate) fn write_tasks<R: Room, K: Sink>(room: &R, sink: &mut K) -> Result<()
 
 /// The line of each task that ended. None ended without an entry.
 pub(crate) fn write_ended<R: Room, K: Sink>(room: &R, sink: &mut K) -> Result<(), Failed>
-    ensures ok { OnOk result (K.written sink.new ≡ appended (K.written sink.old) (part_text ended_lines (R.opening room.now) (R.history room.now))) }
-    ensures prefix { WritesPrefix (K.written sink.old) (part_text ended_lines (R.opening room.now) (R.history room.now)) (K.written sink.new) }
+    ensures ok { OnOk result (K.written sink.new ≡ appended
+        (K.written sink.old) (part_text ended_lines (R.opening room.now) (R.history room.now))) }
+    ensures prefix { WritesPrefix (K.written sink.old)
+        (part_text ended_lines (R.opening room.now) (R.history room.now)) (K.written sink.new) }
 
     ensures faultless { OnOk result (K.faults sink.new ≡ K.faults sink.old) }
     ensures failed { OnErr result (Rose (K.faults sink.old) (K.faults sink.new)) }
@@ -120,8 +130,10 @@ pub(crate) fn write_ended<R: Room, K: Sink>(room: &R, sink: &mut K) -> Result<()
 
 /// The line of each guard.
 pub(crate) fn write_guards<R: Room, K: Sink>(room: &R, sink: &mut K) -> Result<(), Failed>
-    ensures ok { OnOk result (K.written sink.new ≡ appended (K.written sink.old) (part_text guard_lines (R.opening room.now) (R.history room.now))) }
-    ensures prefix { WritesPrefix (K.written sink.old) (part_text guard_lines (R.opening room.now) (R.history room.now)) (K.written sink.new) }
+    ensures ok { OnOk result (K.written sink.new ≡ appended
+        (K.written sink.old) (part_text guard_lines (R.opening room.now) (R.history room.now))) }
+    ensures prefix { WritesPrefix (K.written sink.old)
+        (part_text guard_lines (R.opening room.now) (R.history room.now)) (K.written sink.new) }
 
     ensures faultless { OnOk result (K.faults sink.new ≡ K.faults sink.old) }
     ensures failed { OnErr result (Rose (K.faults sink.old) (K.faults sink.new)) }

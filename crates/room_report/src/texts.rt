@@ -17,15 +17,18 @@ use cs_types::Room;
 /// again with the rest if the sink took only a part. At an `Err` the sink has failed, and a prefix
 /// of the text is written. It takes no memory.
 pub fn output<R: Room, K: Sink>(room: &R, sink: &mut K) -> Result<(), Failed>
-    ensures ok { OnOk result (K.written sink.new ≡ appended (K.written sink.old) (output_text (R.opening room.now) (R.history room.now))) }
-    ensures prefix { WritesPrefix (K.written sink.old) (output_text (R.opening room.now) (R.history room.now)) (K.written sink.new) }
+    ensures ok { OnOk result (K.written sink.new
+        ≡ appended (K.written sink.old) (output_text (R.opening room.now) (R.history room.now))) }
+    ensures prefix { WritesPrefix (K.written sink.old)
+        (output_text (R.opening room.now) (R.history room.now)) (K.written sink.new) }
 
     ensures faultless { OnOk result (K.faults sink.new ≡ K.faults sink.old) }
     ensures failed { OnErr result (Rose (K.faults sink.old) (K.faults sink.new)) }
     ensures counted { K.faults sink.old ≤ K.faults sink.new }
 
     // No other history has this text, whatever it began with.
-    ensures one { (opening : Opening) (history : History) → All IsEntry history → All IsEntry (R.history room.now) →
+    ensures one { (opening : Opening) (history : History) →
+        All IsEntry history → All IsEntry (R.history room.now) →
         output_text opening history ≡ output_text (R.opening room.now) (R.history room.now) →
         history ≡ R.history room.now }
 
@@ -38,8 +41,10 @@ pub fn output<R: Room, K: Sink>(room: &R, sink: &mut K) -> Result<(), Failed>
 
 /// Writes the report alone, in the same way as `output`: what the machine shows now.
 pub fn report<R: Room, K: Sink>(room: &R, sink: &mut K) -> Result<(), Failed>
-    ensures ok { OnOk result (K.written sink.new ≡ appended (K.written sink.old) (report_text (moment_of (R.opening room.now) (R.history room.now)))) }
-    ensures prefix { WritesPrefix (K.written sink.old) (report_text (moment_of (R.opening room.now) (R.history room.now))) (K.written sink.new) }
+    ensures ok { OnOk result (K.written sink.new ≡ appended
+        (K.written sink.old) (report_text (moment_of (R.opening room.now) (R.history room.now)))) }
+    ensures prefix { WritesPrefix (K.written sink.old)
+        (report_text (moment_of (R.opening room.now) (R.history room.now))) (K.written sink.new) }
 
     ensures faultless { OnOk result (K.faults sink.new ≡ K.faults sink.old) }
     ensures failed { OnErr result (Rose (K.faults sink.old) (K.faults sink.new)) }

@@ -38,7 +38,8 @@ pub fn replay<R: FromScenario<Guards<G>>, S: Source, K: Sink, G: Guard>(
     // When each status comes, what was read for it, and what was written.
     ensures ends { Asks Replay words.now → EndsAsReplay (map G.cap guards.items)
         (record { bytes = S.left; faults = S.faults; before = source.old; after = source.new })
-        (record { bytes = K.written; faults = K.faults; before = sink.old; after = sink.new }) result }
+        (record { bytes = K.written; faults = K.faults; before = sink.old; after = sink.new })
+        result }
 
     // Other words are refused, and no other. Nothing is read for them and nothing written.
     ensures bad_words { (result ≡ Status.BadWords) ↔ ¬ Asks Replay words.now }
@@ -67,7 +68,8 @@ pub fn drill<R: FromScenario<Guards<G>>, K: Sink, G: Guard>(
 
     // When each status comes, and what was written.
     ensures ends { (seed : ℕ) → Asks (Drill seed) words.now → EndsAsDrill seed
-        (record { bytes = K.written; faults = K.faults; before = sink.old; after = sink.new }) result }
+        (record { bytes = K.written; faults = K.faults; before = sink.old; after = sink.new })
+        result }
 
     // Other words are refused, and no other. Nothing is written for them.
     ensures bad_words { (result ≡ Status.BadWords) ↔ ((seed : ℕ) → ¬ Asks (Drill seed) words.now) }
@@ -99,12 +101,15 @@ pub fn run<
     requires fresh { AreFresh G.pairs G.asked guards.items }
 
     // When each status comes, what was read for it, and what was written, by the command of the words.
-    ensures ends { (command : SomeCommand) → Asks command words.now → EndsBy command (map G.cap guards.items)
+    ensures ends { (command : SomeCommand) → Asks command words.now →
+        EndsBy command (map G.cap guards.items)
         (record { bytes = S.left; faults = S.faults; before = source.old; after = source.new })
-        (record { bytes = K.written; faults = K.faults; before = sink.old; after = sink.new }) result }
+        (record { bytes = K.written; faults = K.faults; before = sink.old; after = sink.new })
+        result }
 
     // Other words are refused, and no other. Nothing is read for them and nothing written.
-    ensures bad_words { (result ≡ Status.BadWords) ↔ ((command : SomeCommand) → ¬ Asks command words.now) }
+    ensures bad_words { (result ≡ Status.BadWords)
+        ↔ ((command : SomeCommand) → ¬ Asks command words.now) }
     ensures unread { result ≡ Status.BadWords → source.new ≡ source.old }
     ensures unwritten { result ≡ Status.BadWords → sink.new ≡ sink.old }
 {

@@ -35,7 +35,8 @@ fn opened<R: FromScenario<Guards<G>>, G: Guard>(
 
 /// Writes the summary and the report, and says how that ended.
 fn write_summary<R: Room, K: Sink>(seed: u32, room: &R, sink: &mut K) -> Status
-    ensures { IsWritten (record { bytes = K.written; faults = K.faults; before = sink.old; after = sink.new })
+    ensures { IsWritten
+        (record { bytes = K.written; faults = K.faults; before = sink.old; after = sink.new })
         (summary_text seed (R.opening room.now) (R.history room.now)) result }
 {
     Status::of_writing(summary(seed, room, sink))
@@ -45,12 +46,15 @@ fn write_summary<R: Room, K: Sink>(seed: u32, room: &R, sink: &mut K) -> Status
 /// the summary and the report.
 fn write_drill<R: Room, K: Sink>(seed: u32, mut room: R, steps: &[Step], sink: &mut K) -> Status
     requires empty { R.history room ≡ [] }
-    requires spare { length steps.now + (R.opening room).scenario.siblings * (R.opening room).scenario.siblings
+    requires spare { length steps.now
+        + (R.opening room).scenario.siblings * (R.opening room).scenario.siblings
         ≤ R.spare room }
-    requires events { All (λ step. IsEvent (R.opening room).scenario.siblings step.event) steps.now }
+    requires events { All
+        (λ step. IsEvent (R.opening room).scenario.siblings step.event) steps.now }
 
     ensures { WritesDrill seed (R.opening room) steps.now
-        (record { bytes = K.written; faults = K.faults; before = sink.old; after = sink.new }) result }
+        (record { bytes = K.written; faults = K.faults; before = sink.old; after = sink.new })
+        result }
 {
     play(&mut room, steps);
     room.drain();
@@ -65,7 +69,9 @@ pub(crate) fn drilled<R: FromScenario<Guards<G>>, K: Sink, G: Guard>(
     sink: &mut K,
 ) -> Status
     requires sink { K.faults sink.old < 2 ^ 64 - 1 }
-    ensures { EndsAsDrill seed (record { bytes = K.written; faults = K.faults; before = sink.old; after = sink.new }) result }
+    ensures { EndsAsDrill seed
+        (record { bytes = K.written; faults = K.faults; before = sink.old; after = sink.new })
+        result }
 {
     match opened::<R, G>(alloc, seed) {
         Ok((scenario, room)) => write_drill(seed, room, scenario.steps.items(), sink),

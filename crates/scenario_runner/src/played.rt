@@ -31,25 +31,30 @@ pub fn opened<R: FromScenario<Guards<G>>, S: Source, G: Guard>(
     requires fresh { AreFresh G.pairs G.asked guards.items }
 
     ensures reads { IfOk result (λ opened. Reads opened.0 (S.left source.old) (S.left source.new)) }
-    ensures taught { IfOk result (λ opened. first_bad (map G.cap guards.items) opened.0.teaches ≡ None) }
-    ensures opening { IfOk result (λ opened. R.opening opened.1 ≡ opened_with (map G.cap guards.items) opened.0) }
+    ensures taught { IfOk result
+        (λ opened. first_bad (map G.cap guards.items) opened.0.teaches ≡ None) }
+    ensures opening { IfOk result
+        (λ opened. R.opening opened.1 ≡ opened_with (map G.cap guards.items) opened.0) }
     ensures empty { IfOk result (λ opened. R.history opened.1 ≡ []) }
     ensures spare { IfOk result (λ opened.
         R.spare opened.1 ≡ length opened.0.steps + opened.0.siblings * opened.0.siblings) }
 
     ensures too_long { IfSome (S.left source.old) (λ _.
-        (result ≡ Err Stop.TooLong) ↔ (input_limit < count_read (S.left source.old) (S.left source.new))) }
+        (result ≡ Err Stop.TooLong)
+        ↔ (input_limit < count_read (S.left source.old) (S.left source.new))) }
     ensures most { IfSome (S.left source.old) (λ _.
         count_read (S.left source.old) (S.left source.new) ≤ input_limit + 1) }
     ensures bad { (line : _) (kind : _) → result ≡ Err (Stop.BadScenario line kind) →
         IsBad line kind (S.left source.old) (S.left source.new) }
-    ensures first { (bytes : _) (line : _) (kind : _) → S.left source.old ≡ Some bytes → length bytes ≤ input_limit →
+    ensures first { (bytes : _) (line : _) (kind : _) →
+        S.left source.old ≡ Some bytes → length bytes ≤ input_limit →
         IsFirstBad (lines_in bytes) line kind → result ≢ Err Stop.ReadFault →
         (result ≡ Err (Stop.BadScenario line kind)) ⊎ (result ≡ Err Stop.OutOfMemory) }
     ensures bad_guard { (line : _) (kind : _) → result ≡ Err (Stop.BadGuard line kind) →
         IsBadGuard (map G.cap guards.items) line kind (S.left source.old) (S.left source.new) }
     ensures faultless { result ≢ Err Stop.ReadFault → S.faults source.new ≡ S.faults source.old }
-    ensures failed { result ≡ Err Stop.ReadFault → Rose (S.faults source.old) (S.faults source.new) }
+    ensures failed { result ≡ Err Stop.ReadFault →
+        Rose (S.faults source.old) (S.faults source.new) }
     ensures counted { S.faults source.old ≤ S.faults source.new }
 {
     let scenario = read_scenario(alloc, source)?;
@@ -60,7 +65,8 @@ pub fn opened<R: FromScenario<Guards<G>>, S: Source, G: Guard>(
 
 /// Writes the line of each entry and the report, and says how that ended.
 fn write_output<R: Room, K: Sink>(room: &R, sink: &mut K) -> Status
-    ensures { WritesOutput (record { bytes = K.written; faults = K.faults; before = sink.old; after = sink.new })
+    ensures { WritesOutput
+        (record { bytes = K.written; faults = K.faults; before = sink.old; after = sink.new })
         (R.opening room.now) (R.history room.now) result }
 {
     Status::of_writing(output(room, sink))
@@ -70,12 +76,15 @@ fn write_output<R: Room, K: Sink>(room: &R, sink: &mut K) -> Status
 /// the line of each entry and the report.
 fn write_replay<R: Room, K: Sink>(mut room: R, steps: &[Step], sink: &mut K) -> Status
     requires empty { R.history room ≡ [] }
-    requires spare { length steps.now + (R.opening room).scenario.siblings * (R.opening room).scenario.siblings
+    requires spare { length steps.now
+        + (R.opening room).scenario.siblings * (R.opening room).scenario.siblings
         ≤ R.spare room }
-    requires events { All (λ step. IsEvent (R.opening room).scenario.siblings step.event) steps.now }
+    requires events { All
+        (λ step. IsEvent (R.opening room).scenario.siblings step.event) steps.now }
 
     ensures { WritesReplay (R.opening room) steps.now
-        (record { bytes = K.written; faults = K.faults; before = sink.old; after = sink.new }) result }
+        (record { bytes = K.written; faults = K.faults; before = sink.old; after = sink.new })
+        result }
 {
     play(&mut room, steps);
     room.drain();
@@ -96,7 +105,8 @@ pub(crate) fn replayed<R: FromScenario<Guards<G>>, S: Source, K: Sink, G: Guard>
 
     ensures { EndsAsReplay (map G.cap guards.items)
         (record { bytes = S.left; faults = S.faults; before = source.old; after = source.new })
-        (record { bytes = K.written; faults = K.faults; before = sink.old; after = sink.new }) result }
+        (record { bytes = K.written; faults = K.faults; before = sink.old; after = sink.new })
+        result }
 {
     match opened::<R, S, G>(alloc, source, guards) {
         Ok((scenario, room)) => write_replay(room, scenario.steps.items(), sink),
@@ -117,10 +127,12 @@ fn write_race<R: Room + Send, T: Threads + Wait + AllocGlobal + Sync, K: Sink, P
     requires playable { IsPlayable scenario.now }
     requires scenario { (R.opening room).scenario ≡ scenario.now }
     requires empty { R.history room ≡ [] }
-    requires spare { length scenario.now.steps + scenario.now.siblings * scenario.now.siblings ≤ R.spare room }
+    requires spare { length scenario.now.steps + scenario.now.siblings * scenario.now.siblings
+        ≤ R.spare room }
 
     ensures { MayWriteRace (R.opening room)
-        (record { bytes = K.written; faults = K.faults; before = sink.old; after = sink.new }) result }
+        (record { bytes = K.written; faults = K.faults; before = sink.old; after = sink.new })
+        result }
 {
     match sibling_workers::race(rt, room, scenario, gate) {
         Ok(raced) => write_output(&raced, sink),
@@ -145,7 +157,8 @@ pub(crate) fn raced<
 
     ensures { EndsAsRace (map G.cap guards.items)
         (record { bytes = S.left; faults = S.faults; before = source.old; after = source.new })
-        (record { bytes = K.written; faults = K.faults; before = sink.old; after = sink.new }) result }
+        (record { bytes = K.written; faults = K.faults; before = sink.old; after = sink.new })
+        result }
 {
     match opened::<R, S, G>(rt.alloc(), source, guards) {
         Ok((scenario, room)) => write_race(rt, room, &scenario, sink, gate),

@@ -90,8 +90,10 @@ fn limits_line(scenario: &Scenario) -> Line
 
 /// The lines before the first task.
 fn write_head<K: Sink>(scenario: &Scenario, sink: &mut K) -> Result<(), Failed>
-    ensures ok { OnOk result (K.written sink.new ≡ appended (K.written sink.old) (flat_map line (version_words ∷ siblings_words scenario.now ∷ limits_words scenario.now ∷ []))) }
-    ensures prefix { WritesPrefix (K.written sink.old) (flat_map line (version_words ∷ siblings_words scenario.now ∷ limits_words scenario.now ∷ [])) (K.written sink.new) }
+    ensures ok { OnOk result (K.written sink.new ≡ appended (K.written sink.old) (flat_map line
+        (version_words ∷ siblings_words scenario.now ∷ limits_words scenario.now ∷ []))) }
+    ensures prefix { WritesPrefix (K.written sink.old) (flat_map line (version_words
+        ∷ siblings_words scenario.now ∷ limits_words scenario.now ∷ [])) (K.written sink.new) }
 
     ensures faultless { OnOk result (K.faults sink.new ≡ K.faults sink.old) }
     ensures failed { OnErr result (Rose (K.faults sink.old) (K.faults sink.new)) }
@@ -104,8 +106,10 @@ fn write_head<K: Sink>(scenario: &Scenario, sink: &mut K) -> Result<(), Failed>
 
 /// The line of each item.
 fn write_lines<T: Lined, K: Sink>(items: &[T], sink: &mut K) -> Result<(), Failed>
-    ensures ok { OnOk result (K.written sink.new ≡ appended (K.written sink.old) (flat_map line (map T.words items.now))) }
-    ensures prefix { WritesPrefix (K.written sink.old) (flat_map line (map T.words items.now)) (K.written sink.new) }
+    ensures ok { OnOk result (K.written sink.new
+        ≡ appended (K.written sink.old) (flat_map line (map T.words items.now))) }
+    ensures prefix { WritesPrefix (K.written sink.old)
+        (flat_map line (map T.words items.now)) (K.written sink.new) }
 
     ensures faultless { OnOk result (K.faults sink.new ≡ K.faults sink.old) }
     ensures failed { OnErr result (Rose (K.faults sink.old) (K.faults sink.new)) }
@@ -122,15 +126,18 @@ fn write_lines<T: Lined, K: Sink>(items: &[T], sink: &mut K) -> Result<(), Faile
 ///
 /// At an `Err` the sink has failed, and a prefix of the text is written.
 pub fn scenario_text<K: Sink>(scenario: &Scenario, sink: &mut K) -> Result<(), Failed>
-    ensures ok { OnOk result (K.written sink.new ≡ appended (K.written sink.old) (scenario_text scenario.now)) }
-    ensures prefix { WritesPrefix (K.written sink.old) (scenario_text scenario.now) (K.written sink.new) }
+    ensures ok { OnOk result (K.written sink.new
+        ≡ appended (K.written sink.old) (scenario_text scenario.now)) }
+    ensures prefix { WritesPrefix (K.written sink.old)
+        (scenario_text scenario.now) (K.written sink.new) }
 
     ensures faultless { OnOk result (K.faults sink.new ≡ K.faults sink.old) }
     ensures failed { OnErr result (Rose (K.faults sink.old) (K.faults sink.new)) }
     ensures counted { K.faults sink.old ≤ K.faults sink.new }
 
     // The text of a valid scenario is that of no other, so it is read back as that scenario.
-    ensures read_back { IsValid scenario.now → (other : Scenario) → IsTextOf (scenario_text scenario.now) other → other ≡ scenario.now }
+    ensures read_back { IsValid scenario.now → (other : Scenario) →
+        IsTextOf (scenario_text scenario.now) other → other ≡ scenario.now }
 {
     write_head(scenario, sink)?;
     write_lines(scenario.tasks.items(), sink)?;

@@ -14,7 +14,15 @@ pub trait Named {
 
 impl Named for Brand {
     ghost opening = { record {
-      scenario = record { siblings = 1; task_limit = 1; cookie_limit = 1; user_top = 8192; tasks = []; teaches = []; steps = [] };
+      scenario = record {
+        siblings = 1;
+        task_limit = 1;
+        cookie_limit = 1;
+        user_top = 8192;
+        tasks = [];
+        teaches = [];
+        steps = [];
+      };
       guards = 0;
     } };
 }

@@ -33,7 +33,8 @@ impl<R: Room, N: Named> Model for Scripted<R, N> {
 
     ghost view = { λ scripted. scripted.room };
 
-    ghost invariant = { λ scripted. IsScripted N.opening (R.opening scripted.room) (R.history scripted.room)
+    ghost invariant = { λ scripted. IsScripted N.opening
+        (R.opening scripted.room) (R.history scripted.room)
         (R.spare scripted.room) scripted.scripts };
 }
 
@@ -48,7 +49,8 @@ impl<R: Room, N: Named> Scripted<R, N> {
         requires scenario { (R.opening room).scenario ≡ scenario.now }
         requires opening { R.opening room ≡ N.opening }
         requires empty { R.history room ≡ [] }
-        requires spare { length scenario.now.steps + scenario.now.siblings * scenario.now.siblings ≤ R.spare room }
+        requires spare { length scenario.now.steps + scenario.now.siblings * scenario.now.siblings
+            ≤ R.spare room }
 
         ensures { IfOk result (λ scripted. scripted ≡ room) }
     {
@@ -68,11 +70,13 @@ impl<R: Room, N: Named> Scripted<R, N> {
         ensures spare { R.spare self.new + count_made result ≡ R.spare self.old }
 
         // Room is left for each step that is not made yet, and for the entries of the final drain.
-        ensures left { length N.opening.scenario.steps + N.opening.scenario.siblings * N.opening.scenario.siblings
+        ensures left { length N.opening.scenario.steps
+            + N.opening.scenario.siblings * N.opening.scenario.siblings
             ≤ length (R.history self.new) + R.spare self.new }
 
         // Whoever has made its whole script keeps it so.
-        ensures made { (other : _) → events_by other (R.history self.old) ≡ script N.opening.scenario other →
+        ensures made { (other : _) →
+            events_by other (R.history self.old) ≡ script N.opening.scenario other →
             events_by other (R.history self.new) ≡ script N.opening.scenario other }
 
         // What holds of each value of this type.
@@ -97,7 +101,8 @@ impl<R: Room, N: Named> Scripted<R, N> {
         ensures legal { IsLegal N.opening (R.history result) }
         ensures order { KeepsScripts N.opening.scenario (R.history result) }
         ensures spare { N.opening.scenario.siblings * N.opening.scenario.siblings ≤ R.spare result }
-        ensures left { length N.opening.scenario.steps + N.opening.scenario.siblings * N.opening.scenario.siblings
+        ensures left { length N.opening.scenario.steps
+            + N.opening.scenario.siblings * N.opening.scenario.siblings
             ≤ length (R.history result) + R.spare result }
     {
         let Scripted { room, .. } = self;

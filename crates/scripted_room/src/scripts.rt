@@ -16,7 +16,8 @@ use std::marker::Model;
 impl Script {
     /// Puts one more event at the end of the script.
     fn push(&mut self, event: Event) -> Result<(), OutOfMemory>
-        ensures steps { OnOk result (steps_from self.new ≡ steps_from self.old ++ step_of self.old.actor event ∷ []) }
+        ensures steps { OnOk result (steps_from self.new
+            ≡ steps_from self.old ++ step_of self.old.actor event ∷ []) }
     {
         self.events.push(event)?;
         Ok(())
@@ -36,8 +37,10 @@ impl Script {
 /// The place of the last script of the actor. `None` if it has none.
 fn last_of(scripts: &[Script], actor: Actor) -> Option<usize>
     ensures within { IfSome result (λ k. k < length scripts.now) }
-    ensures same { IfSome result (λ k. IfSome (slice_get scripts.now k) (λ script. is_actor script.actor actor ≡ true)) }
-    ensures last { IfSome result (λ k. events_in actor (steps_left (drop (k + 1) scripts.now)) ≡ []) }
+    ensures same { IfSome result
+        (λ k. IfSome (slice_get scripts.now k) (λ script. is_actor script.actor actor ≡ true)) }
+    ensures last { IfSome result
+        (λ k. events_in actor (steps_left (drop (k + 1) scripts.now)) ≡ []) }
     ensures none { IfNone result (events_in actor (steps_left scripts.now) ≡ []) }
 {
     let mut end = scripts.len();
@@ -52,7 +55,8 @@ fn last_of(scripts: &[Script], actor: Actor) -> Option<usize>
 
 /// Whether the next step of the actor is the script's.
 fn has_next(script: &Script, actor: Actor) -> bool
-    ensures { MatchBool result ((is_actor script.now.actor actor ≡ true) × (script.now.place < length script.now.events.items))
+    ensures { MatchBool result ((is_actor script.now.actor actor ≡ true)
+        × (script.now.place < length script.now.events.items))
         (events_in actor (steps_from script.now) ≡ []) }
 {
     is_same(script.actor, actor) && script.place < script.events.len()
@@ -61,7 +65,8 @@ fn has_next(script: &Script, actor: Actor) -> bool
 /// The place of the first script of the actor that is not made to its end. `None` if there is none.
 fn next_of(scripts: &[Script], actor: Actor) -> Option<usize>
     ensures within { IfSome result (λ k. k < length scripts.now) }
-    ensures same { IfSome result (λ k. IfSome (slice_get scripts.now k) (λ script. (is_actor script.actor actor ≡ true)
+    ensures same { IfSome result
+        (λ k. IfSome (slice_get scripts.now k) (λ script. (is_actor script.actor actor ≡ true)
         × (script.place < length script.events.items))) }
     ensures first { IfSome result (λ k. events_in actor (steps_left (take k scripts.now)) ≡ []) }
     ensures none { IfNone result (events_in actor (steps_left scripts.now) ≡ []) }
@@ -94,7 +99,8 @@ impl Model for Scripts {
 fn add(alloc: Global, scripts: &mut Vec<Script>, step: Step) -> Result<(), OutOfMemory>
     ensures steps { OnOk result ((actor : Actor) → events_in actor (steps_left scripts.new.items)
         ≡ events_in actor (steps_left scripts.old.items) ++ events_in actor (step ∷ [])) }
-    ensures count { OnOk result (length (steps_left scripts.new.items) ≡ length (steps_left scripts.old.items) + 1) }
+    ensures count { OnOk result (length (steps_left scripts.new.items)
+        ≡ length (steps_left scripts.old.items) + 1) }
 {
     match last_of(scripts.as_slice(), step.actor) {
         Some(place) => scripts[place].push(step.event)?,
@@ -114,7 +120,8 @@ fn add(alloc: Global, scripts: &mut Vec<Script>, step: Step) -> Result<(), OutOf
 impl Scripts {
     /// The scripts of these steps, of which none is made.
     pub(crate) fn of(alloc: Global, steps: &[Step]) -> Result<Scripts, OutOfMemory>
-        ensures steps { IfOk result (λ all. (actor : Actor) → events_in actor all ≡ events_in actor steps.now) }
+        ensures steps { IfOk result (λ all. (actor : Actor) →
+            events_in actor all ≡ events_in actor steps.now) }
         ensures count { IfOk result (λ all. length all ≡ length steps.now) }
     {
         let mut scripts = Vec::new(alloc);

@@ -30,7 +30,8 @@ fn play<T: Threads + Wait + Sync, R: Room + Send, G: Gate + Sync>(
     requires spare { steps_in lists ≤ R.spare room }
 
     ensures opening { IfOk result (λ played. R.opening played ≡ R.opening room) }
-    ensures spare { IfOk result (λ played. R.spare played + length (R.history played) ≡ R.spare room) }
+    ensures spare { IfOk result
+        (λ played. R.spare played + length (R.history played) ≡ R.spare room) }
     ensures legal { IfOk result (λ played. IsLegal (R.opening played) (R.history played)) }
     ensures made { IfOk result (λ played. HasAll lists (R.history played)) }
 {
@@ -61,7 +62,8 @@ pub fn race<T: Threads + Wait + AllocGlobal + Sync, R: Room + Send, G: Gate + Sy
     requires playable { IsPlayable scenario.now }
     requires scenario { (R.opening room).scenario ≡ scenario.now }
     requires empty { R.history room ≡ [] }
-    requires spare { length scenario.now.steps + scenario.now.siblings * scenario.now.siblings ≤ R.spare room }
+    requires spare { length scenario.now.steps + scenario.now.siblings * scenario.now.siblings
+        ≤ R.spare room }
 
     ensures opening { IfOk result (λ raced. R.opening raced ≡ R.opening room) }
     ensures raced { IfOk result (λ raced. IsRaced (R.opening room) (R.history raced)) }
