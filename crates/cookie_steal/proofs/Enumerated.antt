@@ -46,7 +46,7 @@ module _ {X : Type 0} (lt : X → X → Bool) (xs : List X) where
   abbrev after : X → List X
   after x = filter (λ other. lt x other) xs
 
-  -- Those that pass stand at this one or behind it, which is one of the list. Where there is none, none passes.
+  -- Those that pass stand at this one, which is one of the list, or after it. If there is none, none passes.
   abbrev pub IsLeft : (X → Bool) → Option X → Type 0
   IsLeft may None = (x : X) → Contains xs x → may x ≡ false
   IsLeft may (Some t) = Contains xs t × ((x : X) → Contains xs x → may x ≡ true → (lt t x ≡ true) ⊎ (x ≡ t))

@@ -1,4 +1,4 @@
--- Steals: what a steal try finds, and whether its source is left idle.
+-- Steals: what a try to steal finds, and whether its source is left idle.
 use Rattle.std.proofs.Common.{◌≡◌, ℕ, Bool, sym, ◌∙◌, inl, inr}
 use Rattle.std.specs.Prelude.{◌&&◌, ◌||◌, ◌==◌, not, filter, is_some, is_none, Some, None}
 use Rattle.std.proofs.lemmas.Bool.{cases_Bool, cond-true, cond-false}

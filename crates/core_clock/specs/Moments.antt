@@ -22,8 +22,8 @@ pub record MayQueue {Q : Type 0} {g : Ghosts Q} (now count : ℕ) (both : Core Q
   pub stamp : both.0.next_stamp + 1 < 2 ^ 64
   pub touches : both.0.task_number + count < 2 ^ 64
 
--- the same for a task that sleeps in the table, and differs from what it is there in its home, its virtual time and
--- whether it is queued alone
+-- the same for a task that sleeps in the table, and differs from what it is there only in its home, its virtual time
+-- and whether it is queued
 pub record MayWakeAtHome {Q : Type 0} {g : Ghosts Q} (now : ℕ) (both : Core Q g × Table) (task : Task) : Type 0 where
   pub may : MayQueue now 1 both task
   pub asleep : may.knows.apart.old.queued ≡ false

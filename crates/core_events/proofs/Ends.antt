@@ -1,4 +1,4 @@
--- Ends: a machine makes the entries of the end one by one.
+-- Ends: a machine makes the entries of the final drain one by one.
 use Rattle.std.proofs.Common.{◌≡◌, ℕ, ◌*◌, ◌-◌, ◌<◌, ◌≤◌, List, [], ◌∷◌, ◌++◌, refl, sym, ap, ◌∙◌, subst, arith, Some, None}
 use Rattle.std.proofs.lemmas.List.{append_assoc, append-nil}
 use Rattle.cs_types.specs.Room.{Opening}

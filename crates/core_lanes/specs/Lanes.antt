@@ -254,8 +254,8 @@ pub record MaySleep {Q : Type 0} {g : Ghosts Q} (pid : ℕ) (both : Core Q g × 
   pub there : find (has_pid pid) both.1.tasks ≡ Some task
   pub touches : both.0.task_number + 1 < 2 ^ 64
 
--- a task may be queued that sleeps in the table, and differs from what it is there in its home, its times and whether
--- it is queued alone
+-- a task may be queued that sleeps in the table, and differs from what it is there only in its home, its times and
+-- whether it is queued
 pub record MayWake {Q : Type 0} {g : Ghosts Q} (both : Core Q g × Table) (task : Task) : Type 0 where
   pub may : MayEnqueue both task
   pub asleep : may.knows.apart.old.queued ≡ false

@@ -26,8 +26,7 @@ pub record IsStartOf {Q : Type 0} {g : Ghosts Q} (scenario : Scenario) (both : C
   pub totals : (pid : ℕ) → total_in both.1 pid ≡ 0
   pub agree : Agree both
 
--- the state is that of what a machine begins with, before the first step, and this number of tasks
--- may end
+-- the state is that of what a machine begins with, before the first step, and this number of tasks may end
 pub record IsFirstState {Q G : Type 0} {g : Ghosts Q} (opening : Opening) (most : ℕ) (state : State Q G g) : Type 0 where
   pub room : room_with [] state ≡ start opening
   pub sound : IsSound state

@@ -84,7 +84,7 @@ after-append moment (entry ∷ entries) more = after-append (next moment entry) 
 
 -- ---- how it ends
 
--- After the entries of the end nobody is pending.
+-- After the entries of the final drain no sibling is pending.
 pub end_is_calm : (moment : Moment) (entries : List Entry) → IsEndFrom moment entries → pending (after moment entries).room ≡ []
 end_is_calm moment [] ends = ends
 end_is_calm moment (entry ∷ entries) ends = end_is_calm (next moment entry) entries ends.3
@@ -143,7 +143,7 @@ made_again moment (entry ∷ entries) legal =
     made_more moment entry entries (λ i. record { actor = entry.actor; event = entry.event; reply = sym (legal [] entry entries refl) i })
     (made_again (next moment entry) entries (λ past later rest e. legal (entry ∷ past) later rest (ap (λ (es : List Entry). entry ∷ es) e)))
 
--- A legal history is legal also with the entries of the end.
+-- A legal history is still legal with the entries of the final drain.
 pub IsLegal-drained : (opening : Opening) (past now : History) → IsLegal opening past → IsDrained opening past now → IsLegal opening now
 IsLegal-drained opening past now legal drained =
     let steps = map step_of past in

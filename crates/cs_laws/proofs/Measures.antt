@@ -198,7 +198,7 @@ moment_after moment cpu made =
       ledger = ledger_entry moment.room (record { actor = End; event = Resched cpu; reply = made.reply }) ∷ moment.ledger;
     }
 
--- the next place of a steal try makes no difference
+-- the place of the next try to steal makes no difference
 looks-balance : (cpu : ℕ) (made : Scheduled) (other : ℕ) → looks (sibling_of (balance cpu made).room other) ≡ looks (sibling_of made.room other)
 looks-balance cpu made other = get_or-set_alike looks made.room.siblings cpu _ other absent refl
 

@@ -166,7 +166,7 @@ scheduled_fits room true later cpu (Some run) below up rises waits old fits = ad
 scheduled_fits room false later cpu (Some run) below up rises waits old fits =
     rescheduled_fits (charge room) false later cpu below up rises (λ e. rescheduled_selects (charge room) false cpu (old e)) (λ other differ. fits other)
 
--- the sibling's next place of a steal try makes no difference
+-- the place of the sibling's next try to steal makes no difference
 balanced_fits : (room : RoomState) (fresh later : Bool) (cpu : ℕ) (waiting : Waiting) (place : ℕ) → is_online room cpu ≡ true →
     AllFit (adopt_or_pick_anew room fresh cpu waiting).room later →
     AllFit (with_sibling (adopt_or_pick_anew room fresh cpu waiting).room cpu (record (sibling_of (adopt_or_pick_anew room fresh cpu waiting).room cpu) { place = place })) later

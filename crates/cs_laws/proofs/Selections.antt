@@ -418,7 +418,7 @@ scheduled_keeps_law room fresh cpu None below up = rescheduled_keeps_law (charge
 scheduled_keeps_law room true cpu (Some run) below up = tt
 scheduled_keeps_law room false cpu (Some run) below up = rescheduled_keeps_law (charge room) cpu below up
 
--- neither the charge nor a sibling's next place of a steal try makes a difference to the law
+-- neither the charge nor the place of a sibling's next try to steal makes a difference to the law
 balanced_keeps_law : (room : RoomState) (cpu : ℕ) (pick : Pick) (now : RoomState) (place : ℕ) → SelectsCoreWide (charge room) cpu pick now →
     SelectsCoreWide room cpu pick (with_sibling now cpu (record (sibling_of now cpu) { place = place }))
 unfolding choice

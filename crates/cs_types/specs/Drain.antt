@@ -1,4 +1,5 @@
--- Drain: how a run ends (this project's rule). While an online sibling is pending, the final drain has one schedule.
+-- Drain: how a run ends (this project's rule). While an online sibling is pending, the final drain makes one of them
+-- schedule.
 use Rattle.std.specs.Prelude.{◌≡◌, ℕ, Bool, ◌&&◌, List, [], ◌∷◌, ◌++◌, filter, Option, Some, None, is_some}
 use Rattle.cs_types.specs.declared.event.Actor.TheVariants.{End}
 use Rattle.cs_types.specs.declared.event.Event.TheVariants.{Resched}

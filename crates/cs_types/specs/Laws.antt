@@ -93,8 +93,8 @@ IsSettled room =
     (cpu : ℕ) → Contains (online room) cpu → (sibling_of room cpu).pending ≡ false →
     ((sibling_of room cpu).run ≡ None) ⊎ RunsWithCookie room room.core_cookie cpu
 
--- Any two online siblings that do not run idle run living tasks with one cookie. It follows if the rule holds and none
--- is pending.
+-- Any two online siblings that do not run idle run living tasks with one cookie. This follows if the rule holds and
+-- none is pending.
 abbrev pub RunOneCookie : RoomState → Type 0
 RunOneCookie room =
     (a b : ℕ) → Contains (online room) a → Contains (online room) b →

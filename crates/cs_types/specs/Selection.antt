@@ -46,7 +46,7 @@ lead_from room cpu =
 
 -- What a sibling gets for a core cookie: its first, if that is idle or has the cookie; else the first task queued there
 -- with the cookie (`sched_core_find`; by the present virtual times, which is this project's rule), which is not
--- searched for cookie 0; else idle.
+-- searched for if the cookie is 0; else idle.
 unfoldable pub choice : RoomState → ℕ → ℕ → Option Task
 choice room core cpu =
     if is_none (first_on room cpu) || (cookie_of (first_on room cpu) == core)
@@ -129,7 +129,7 @@ pick_plain room cpu =
 abbrev pub renews_snapshots : RoomState → ℕ → Bool
 renews_snapshots room core = (room.forced == 0) || (forced_count room core == 0)
 
--- An online sibling after the selector, which is this sibling or another, has selected for a core cookie.
+-- An online sibling, after the selector has selected for a core cookie. The selector is this sibling or another.
 abbrev pub sibling_after_selection : RoomState → ℕ → ℕ → ℕ → SiblingState → SiblingState
 sibling_after_selection room core selector cpu sibling =
     let chosen = choice room core cpu in

@@ -106,7 +106,7 @@ impl Node {
     }
 
     /// Its key, and those of the nodes below it, get the rank and the stamp that their pids have now, with which they
-    /// still rise. A walk so calls no tree that is empty.
+    /// still rise. So a walk calls no tree that is empty.
     fn renew<R: Renewal>(&mut self, renewal: &R)
         requires even { IsEven self.old }
         requires rising { IsTrue

@@ -38,8 +38,7 @@ fn named_by<'a>(table: &'a TaskTable, caller: &'a Task, pid: i32) -> Option<&'a 
     }
 }
 
-/// The call, if it is admitted, or its answer. All that matters of `online` is whether it is below
-/// 2.
+/// The call, if it is admitted, or its answer. It asks of `online` only whether it is below 2.
 pub fn admit<'a, G: Guard>(
     table: &'a TaskTable,
     guards: &mut Guards<G>,

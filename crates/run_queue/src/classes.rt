@@ -203,7 +203,8 @@ impl<A> Classes<A> {
             All (λ task. priority_of task.spec.policy ≤ 99) tasks →
             result ≡ option_map (λ task. task.spec.pid) (first_of tasks) }
 
-        // Of the classes that are asked only the last has a task. At most two comparisons show that another has none.
+        // Of the classes that are asked only the last can have a task. At most two comparisons show that another has
+        // none.
         ensures counted { steps.new ≤ steps.old + most_comparisons (map.len self.now.tasks) + 6 }
     {
         if let Some(pid) = self.stop.top(steps) {

@@ -120,11 +120,11 @@ made_by_ends n room [] few by_end limits = tt
 made_by_ends n room (entry ∷ entries) few by_end limits =
     (made_by_end n room entry few by_end.0 limits.0, made_by_ends n room entries few by_end.1 limits.1)
 
--- the entries of the end are of the end
+-- the entries of the final drain have the actor `End`
 by_end_of : (opening : Opening) (past now : History) (drained : IsDrained opening past now) → AllByRecursion (IsByEnd (fold_of opening past)) drained.made
 by_end_of opening past now drained = drained_by_end (moment_of opening past) (fold_of opening past) drained.made refl drained.ends
 
--- ---- what a run has before the entries of the end
+-- ---- what a run has before the entries of the final drain
 
 never_end : (actor : Actor) (event : Event) → IsMadeBy actor event → is_actor actor End ≡ false
 never_end (Sibling i) event made = refl
@@ -143,7 +143,7 @@ before_end-none room (entry ∷ rest) by_end =
     ap (λ (a : Actor). cond (not (is_actor a End)) (entry ∷ before_end rest) (before_end rest)) by_end.0.actor
     ∙ before_end-none room rest by_end.1
 
--- a shuffle with the entries of the end has the shuffle before these
+-- a shuffle with the entries of the final drain has the shuffle before these
 before_end-drained : (opening : Opening) (shuffled run : History) → IsPlayable opening.scenario → IsShuffle opening.scenario shuffled → IsDrained opening shuffled run →
     before_end run ≡ shuffled
 before_end-drained opening shuffled run playable shuffle drained =
@@ -169,7 +169,7 @@ all_right P (entry ∷ past) rest all = all_right P past rest all.1
 
 -- ---- the run
 
--- each entry of a shuffle with the entries of the end is made by an actor or by the end
+-- each entry of a shuffle with the entries of the final drain is made by an actor or by the end
 are_made : (opening : Opening) (shuffled run : History) → IsPlayable opening.scenario → IsShuffle opening.scenario shuffled → IsDrained opening shuffled run →
     AreMade run
 are_made opening shuffled run playable shuffle drained =
@@ -203,7 +203,7 @@ no_end (Sibling i) other = refl
 no_end (Caller j) other = refl
 no_end End other = absurd (other refl)
 
--- a legal shuffle of all scripts, with the entries of the end, keeps the laws
+-- a legal shuffle of all scripts, with the entries of the final drain, keeps the laws
 pub keeps_laws : (opening : Opening) (shuffled run : History) → IsPlayable opening.scenario → IsLegal opening shuffled → IsShuffle opening.scenario shuffled →
     IsDrained opening shuffled run → IsPlayed opening run
 keeps_laws opening shuffled run playable lawful shuffle drained =
@@ -232,7 +232,7 @@ keeps_laws opening shuffled run playable lawful shuffle drained =
       events_so_far past rest is =
           All-from_recursion P past (all_left P past rest (recursion_from_All P (past ++ rest) (subst (AreEvents opening) is events)))
 
--- the entries of the end follow the steps that were made
+-- the entries of the final drain follow the steps that were made
 pub drained_of : (opening played : Opening) (steps : List Step) (past run : History) → played ≡ opening → past ≡ history_of opening steps → IsDrained played past run → IsDrained opening (history_of opening steps) run
 drained_of opening played steps past run same is drained =
     subst (λ (o : Opening). IsDrained o (history_of opening steps) run) same (subst (λ (h : History). IsDrained played h run) is drained)

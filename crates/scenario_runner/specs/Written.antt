@@ -28,8 +28,7 @@ pub record WritesOutput {K : Type 0} (sink : Used K) (opening : Opening) (run : 
   pub one : (begun : Opening) (other : History) → All IsEntry other → All IsEntry run → output_text begun other ≡ output_text opening run → other ≡ run
   pub numbers : ended ≡ Done → All (λ entry. FitsReply entry.reply) run
 
--- The steps were made, in their order, and then the entries of the final drain, and that run was
--- written.
+-- The steps were made, in their order, and then the entries of the final drain, and that run was written.
 pub record WritesReplay {K : Type 0} (opening : Opening) (steps : List Step) (sink : Used K) (ended : Status) : Type 0 where
   pub run : History
   pub drained : IsDrained opening (history_of opening steps) run

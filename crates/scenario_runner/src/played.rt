@@ -142,7 +142,7 @@ fn write_race<R: Room + Send, T: Threads + Wait + AllocGlobal + Sync, K: Sink, P
 
 /// Reads a scenario to its end, lets its actors make their scripts beside each other, each in a worker of its own that
 /// passes the gate before each of its turns, makes the entries of the final drain, and writes what a replay writes. It
-/// may wait for the room, and if the gate waits.
+/// may wait for the room, and at the gate.
 pub(crate) fn raced<
     R: FromScenario<Guards<G>> + Send,
     T: Threads + Wait + AllocGlobal + Sync,

@@ -35,8 +35,7 @@ events_in actor steps = map (λ made. made.event) (steps_by steps actor)
 abbrev pub lists_of : List Step → List (List Step)
 lists_of steps = map (steps_by steps) (actors_of steps)
 
--- The history is a shuffle of all scripts that is legal, and then has the entries of the final
--- drain.
+-- The history is a shuffle of all scripts that is legal, and then has the entries of the final drain.
 pub record IsRaced (opening : Opening) (history : History) : Type 0 where
   pub played : History
   pub legal : IsLegal opening played

@@ -6,7 +6,7 @@ use Rattle.std.proofs.lemmas.Bool.{cond-true, cond-false, cases_Bool}
 use Rattle.std.proofs.lemmas.Iterator.Adapters.{position_from-zero}
 
 module _ {X : Type 0} (p : X → Bool) where
-  -- where none of the first k passes, it is behind them
+  -- if none of the first k passes, it is after them
   pub passed : (n k : ℕ) (xs : List X) → list_any p (take k xs) ≡ false → position_from p n xs ≡ position_from p (n + k) (drop k xs)
   passed n zero xs none = ap (λ m. position_from p m xs) (sym (add-zero n))
   passed n (suc k) [] none = refl

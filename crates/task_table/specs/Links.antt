@@ -9,8 +9,7 @@ abbrev pub task_of : Slot → Option Task
 task_of (Empty next) = None
 task_of (Filled task) = Some task
 
--- from this slot on, this many empty ones each name the next, and the last names the end of the
--- slots
+-- from this slot on, this many empty ones each name the next, and the last names the end of the slots
 abbrev pub AreChained : List Slot → ℕ → ℕ → Type 0
 AreChained slots zero key = key ≡ length slots
 AreChained slots (suc count) key = (next : ℕ) × (slice_get slots key ≡ Some (Empty next)) × AreChained slots count next

@@ -75,7 +75,7 @@ fn has_any(entries: &[Entry], group: Group) -> bool
     any
 }
 
-/// The position from which on an entry of the group is looked for: the blocks before it have none.
+/// The position from which on an entry of the group is looked for: the blocks from `from` up to it have none.
 fn clear_to(entries: &[Entry], from: usize, group: Group) -> usize
     requires from { from ≤ length entries.now }
     ensures within { result ≤ length entries.now }

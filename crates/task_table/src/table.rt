@@ -125,7 +125,7 @@ impl TaskTable {
         }
     }
 
-    /// The task with the pid, by a search. It is seldom called, since most slots are noted: mostly if there is none.
+    /// The task with the pid, by a search. It is seldom called, since most slots are noted: mostly when there is none.
     #[cold]
     #[inline(never)]
     fn by_position(&self, pid: Pid) -> Option<&Task>
