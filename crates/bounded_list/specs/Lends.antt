@@ -7,7 +7,7 @@ use Rattle.bounded_list.specs.Bounded.{Bounded, with_item, with_items}
 use Rattle.bounded_list.specs.contracts.list.BoundedList.{the_row}
 
 module _ (T : RattleType) (list : MutBor (Bounded T.Denot)) where
-  -- the items are those that the slice has last, of which there are as many as were lent
+  -- the items are those that the slice has last, as many as were lent
   abbrev pub LendsItems : MutBor (List T.Denot) → Fml
   LendsItems items = Lends (the_row T) (Array T 0) list items (with_items list.now)
 

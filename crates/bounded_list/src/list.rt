@@ -34,7 +34,7 @@ impl<T> BoundedList<T> {
     ghost use Rattle.bounded_list.specs.Lends.{LendsItems, LendsItem, LendsItemIf};
 
     /// A list with no items, and room for `room` of them, a count. It takes memory for them all, and it fails if the
-    /// allocator has not that much. It never fails if no room is asked for.
+    /// allocator does not have that much. It never fails if no room is asked for.
     pub fn with_room(alloc: Global, room: usize) -> Result<BoundedList<T>, AllocError>
         ensures items { IfOk result (λ list. list.items ≡ []) }
         ensures room { IfOk result (λ list. list.room ≡ room) }

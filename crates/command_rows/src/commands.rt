@@ -40,9 +40,9 @@ const LINES: [&str; 17] = [
 /// How many bytes the lines have.
 const OUTPUT_BYTES: u64 = 437;
 
-/// Expects that `run` without guards ends so over this text, and writes these bytes. The source gives this many bytes
-/// at once, and the sink takes this many. They fail at these calls, if they come to them. It returns how often each of
-/// them was called.
+/// Expects that `run` without guards ends with this status over this text, and writes these bytes. The source gives
+/// this many bytes at once, and the sink takes this many. They fail at these calls, if they come to them. It returns
+/// how often each of them was called.
 fn expect_run<R: Threads + Wait + AllocGlobal + Sync + Abort>(
     rt: &R,
     texts: &[&str],
@@ -95,7 +95,7 @@ fn expect_replay<R: AllocGlobal + Abort>(
     (source.calls(), sink.calls())
 }
 
-/// Expects that `run` and `replay` end so over the stored input, and write these bytes, by as many calls.
+/// Expects that `run` and `replay` end with this status over the stored input, and write these bytes, by as many calls.
 fn expect_stored<R: Threads + Wait + AllocGlobal + Sync + Abort>(
     rt: &R,
     texts: &[&str],
@@ -130,8 +130,8 @@ fn stored_scenario_is_played(rt: HostRuntime) {
     assert!(rt; bytes.1 == OUTPUT_BYTES);
 }
 
-/// Expects that `run` and `replay` end so over the stored input, and write these lines. The source gives a byte at a
-/// time. It fails at the one call, and the sink at the other, if they come to it.
+/// Expects that `run` and `replay` end with this status over the stored input, and write these lines. The source gives
+/// a byte at a time. It fails at the one call, and the sink at the other, if they come to it.
 fn expect_faults<R: Threads + Wait + AllocGlobal + Sync + Abort>(
     rt: &R,
     fails: (u64, u64),
@@ -251,7 +251,7 @@ fn words_of_another_call(rt: HostRuntime) {
     expect_no_replay(&rt, &["race"]);
 }
 
-/// Expects that an input of this many bytes, which is no scenario, ends so.
+/// Expects this status for an input of this many bytes, which is no scenario.
 fn expect_long<R: Threads + Wait + AllocGlobal + Sync + Abort>(
     rt: &R,
     bytes: usize,

@@ -26,7 +26,7 @@ IsRising cookies = AllPairs (λ one other. one.cookie < other.cookie) cookies
 abbrev pub AreCookies : List CookieCount → Type 0
 AreCookies cookies = All (λ one. 0 < one.cookie) cookies
 
--- The serials rise from 1 up to the next. The live ones are counted, and there are as many as the limit at most.
+-- The serials rise from 1 up to the next. The live ones are counted, and there are at most as many as the limit.
 pub record IsSound (refs : Inside) : Type 0 where
   pub rising : IsRising refs.cookies.items
   pub above_0 : AreCookies refs.cookies.items

@@ -1,5 +1,4 @@
-//! How a task comes to the queue of its home. It is apart since a wake, a fork and a new policy all queue
-//! a task there.
+//! How a task enters the queue of its home. It is apart since a wake, a fork and a new policy all queue a task there.
 
 ghost use Rattle.std.specs.Prelude.{◌≡◌, ◌+◌, ◌^◌, ◌<◌, length};
 ghost use Rattle.cs_types.specs.Room.{lowest_online};

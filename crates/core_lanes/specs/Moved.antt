@@ -24,7 +24,7 @@ pub record HaveMoved (Held : List Queued → Type 0) (now : List Queued) : Type 
   pub are : now ≡ map (again from to next was) was
   pub ahead : All (λ task. task.class ≡ fair_class → from ≤ task.rank) was
 
--- A queue may come to a sibling with its tasks: they moved there in the table.
+-- A queue may move to a sibling with its tasks: they moved there in the table.
 pub record MayRenew (Held : List Queued → Type 0) (cpu : ℕ) (all : Table) : Type 0 where
   pub table : IsTable all
   pub moved : HaveMoved Held (queued_at all.tasks cpu)

@@ -1,5 +1,5 @@
-//! How a queue comes to another sibling with all its tasks. It is apart, since it alone leaves tasks and queues
-//! for a moment as they do not agree.
+//! How a queue moves to another sibling with all its tasks. It is apart, since it alone leaves tasks and queues for a
+//! moment as they do not agree.
 
 ghost use Rattle.std.specs.Prelude.{◌≡◌, ◌≢◌, ◌<◌, length, map};
 ghost use Rattle.core_lanes.specs.Queued.{queued_among, mover_of, AreTold};

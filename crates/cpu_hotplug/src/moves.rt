@@ -1,4 +1,4 @@
-//! How the tasks of a sibling that leaves come to another. It is apart, since it alone gives them new stamps.
+//! How the tasks of a sibling that leaves move to another. It is apart, since it alone gives them new stamps.
 
 ghost use Rattle.std.specs.Prelude.{◌≢◌, ◌+◌, ◌*◌, [], length, IsTrue};
 ghost use Rattle.cs_types.specs.Hotplug.{move_off};

@@ -41,7 +41,7 @@ taught teaches index = map (λ teach. (teach.from, teach.to)) (filter (λ teach.
 abbrev pub on_bench : List Teach → ℕ → GuardState
 on_bench teaches index = record { place = Bench; pairs = taught teaches index; asked = 0 }
 
--- this number of guards, each of them so
+-- this number of such guards
 abbrev pub guards_on_bench : List Teach → ℕ → GuardList
 guards_on_bench teaches count = record { all = map (on_bench teaches) (range_with_len 0 count); active = [] }
 

@@ -1,4 +1,4 @@
--- Queueing: how a task comes to a sibling's queue, leaves it, and moves to another (`enqueue_task` and `dequeue_task`,
+-- Queueing: how a task enters a sibling's queue, leaves it, and moves to another (`enqueue_task` and `dequeue_task`,
 -- kernel/sched/core.c). A running task stays queued.
 use Rattle.std.specs.Prelude.{ℕ, ◌+◌, ◌-◌, max, Bool, true, false, if◌then◌else◌}
 use Rattle.std.specs.Option.{option_map_or}

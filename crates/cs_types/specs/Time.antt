@@ -30,7 +30,7 @@ weight_index (negsuc n) = 19 - n
 unfoldable pub weight_of : ℤ → ℕ
 weight_of nice = slice_index_or weights (weight_index nice) 1024
 
--- how far the virtual time of a running fair task grows while the clock does by delta ns, rounded down
+-- how far the virtual time of a running fair task grows while the clock goes on by delta ns, rounded down
 -- (`calc_delta_fair`; that it is exact is this project's rule)
 unfoldable pub growth : ℕ → ℤ → ℕ
 growth delta nice = delta * 1024 / weight_of nice

@@ -38,7 +38,7 @@ impl Queued {
 }
 
 /// The queue of a scheduling class on one sibling. Whatever it keeps, it stands for the pids of its
-/// tasks, each at the key that its rank and its stamp are, and how many more it can take.
+/// tasks, each at the key that its rank and its stamp make, and how many more it can take.
 ///
 /// A call that looks for a key counts its comparisons, and among n keys makes at most twice the number of
 /// binary digits of n, and two more.

@@ -211,7 +211,7 @@ clock 2418059194
 ";
 
 /// What `run` writes with the words `drill` and this seed, to a sink that fails at this call. It reads nothing, and
-/// ends so.
+/// ends with this status.
 fn drilled<R: Threads + Wait + AllocGlobal + Sync + Abort>(
     rt: &R,
     seed: &str,

@@ -124,7 +124,7 @@ fn guard_is_let_go_when_it_is_unloaded(rt: HostRuntime) {
     expect_drops(&rt, &drops, 2);
 }
 
-/// Expects that `run` with these words and guards ends so.
+/// Expects that `run` with these words and guards has this end.
 fn expect_end<R: Threads + Wait + AllocGlobal + Sync + Abort, G: Guard + Send>(
     rt: &R,
     texts: &[&str],
@@ -140,7 +140,7 @@ fn expect_end<R: Threads + Wait + AllocGlobal + Sync + Abort, G: Guard + Send>(
     assert!(rt; run_over_trees(rt, &words, &mut source, &mut sink, &NoGate, guards) == end.status);
 }
 
-/// Expects that two guards are dropped once each if `run` with these words ends so.
+/// Expects that two guards are dropped once each if `run` with these words has this end.
 fn expect_let_go<R: Threads + Wait + AllocGlobal + Sync + Abort>(
     rt: &R,
     texts: &[&str],

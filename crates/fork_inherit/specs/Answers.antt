@@ -1,4 +1,4 @@
--- Answers: what a fork and an end come to.
+-- Answers: the outcomes of a fork and of an end.
 use Rattle.std.specs.Prelude.{ℕ, Option, Some, None, Result, Ok, Err, if◌then◌else◌}
 use Rattle.cs_types.specs.declared.task.Task.{Task}
 use Rattle.cs_types.specs.Room.{RoomState}

@@ -65,8 +65,8 @@ fn reads_policies(rt: HostRuntime) {
     }
 }
 
-/// Expects that the text, which breaks this rule, is refused with this first bad line and what is wrong with it.
-/// The command ends so too, and writes nothing.
+/// Expects that the text, which breaks this rule, is refused with this first bad line and what is wrong with it. The
+/// command ends with that too, and writes nothing.
 fn expect_bad<R: Threads + Wait + AllocGlobal + Sync + Abort>(
     rt: &R,
     rule: &str,

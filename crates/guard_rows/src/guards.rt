@@ -21,7 +21,7 @@ fn four<R: AllocGlobal + Abort>(rt: &R) -> Vec<PairGuard>
     guards(rt).expect(rt, "room")
 }
 
-/// Expects that `replay` with these guards ends so over the text, and writes these parts.
+/// Expects that `replay` with these guards ends with this status over the text, and writes these parts.
 fn expect_guarded<R: AllocGlobal + Abort, G: Guard>(
     rt: &R,
     text: &[u8],
@@ -116,7 +116,7 @@ const FOUR_PAIRS: &str = "teach 0 1 2\nteach 0 1 2\nteach 0 1 2\nteach 0 1 2\n";
 
 const END: &str = "end\n";
 
-/// Expects that four guards are taught sixteen pairs and these lines, and that it ends so.
+/// Expects that four guards are taught sixteen pairs and these lines, and this status.
 fn expect_taught<R: AllocGlobal + Abort>(rt: &R, lines: &str, wanted: Status, output: &str) {
     let parts = [
         HEAD, FOUR_PAIRS, FOUR_PAIRS, FOUR_PAIRS, FOUR_PAIRS, lines, END,

@@ -1,5 +1,5 @@
 //! Passes of the ticket lock: their replies on one thread, and a program of somebody else's that makes threads of its
-//! own. And turns under a mutex, for who wants one. They play `INPUT`, over any machine.
+//! own. And turns under a mutex, for those who want one. They play `INPUT`, over any machine.
 
 ghost use Rattle.std.specs.Prelude.{◌≡◌, ◌+◌, ◌*◌, ◌≤◌, [], length};
 ghost use Rattle.cs_types.specs.Scenario.{IsPlayable};

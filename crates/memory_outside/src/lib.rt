@@ -1,5 +1,5 @@
 //! The outside in memory: a source and a sink that fail at given calls, and a guard that takes memory for its pairs. No
-//! program uses it. Who calls the product from other code can, as its tests do.
+//! program uses it. Other code that calls the product can, as its tests do.
 #![tactic(auto)]
 
 mod list_guard;

@@ -146,7 +146,7 @@ pub record CanSpread (left : Branch) (low : Entry) (middle : Node) (high : Entry
   pub left_levels : left.height ≡ max middle.left.height middle.right.height
   pub right_levels : right.height ≡ max middle.left.height middle.right.height
 
--- the height that a root comes to if its sides are then as high as each other
+-- the height that a root gets if its sides are then as high as each other
 abbrev pub left_levels : Node → ℕ
 left_levels node = max node.left.height (node.right.height + 1)
 

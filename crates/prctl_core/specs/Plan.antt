@@ -1,4 +1,4 @@
--- Plans: what a call comes to, beside its answer and its setting in a room.
+-- Plans: the outcome of a call, beside its answer and its setting in a room.
 use Rattle.std.specs.Prelude.{◌≡◌, ℕ, ◌+◌, ◌-◌, ◌%◌, ◌==◌, ◌&&◌, ◌||◌, not, Bool, false, true, nat_lt, List, [], map, filter, find, length, Some, Result, Ok, Err, if◌then◌else◌}
 use Rattle.std.specs.List.{list_all}
 use Rattle.cs_types.specs.declared.task.Task.{Task}
@@ -164,7 +164,7 @@ abbrev pub NamesCaller : Called → Result Target Errno → Type 0
 NamesCaller called (Ok to) = (to ≡ One called.caller.now.spec.pid) × (is_alone called ≡ true)
 NamesCaller called (Err errno) = (errno ≡ Einval) × (is_alone called ≡ false)
 
--- ---- what each command comes to
+-- ---- the outcome of each command
 
 -- a GET
 abbrev pub get_plan : Called → ℕ → ℕ → Planned

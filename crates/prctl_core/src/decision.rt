@@ -26,7 +26,7 @@ pub struct Decision {
     pub reply: Reply,
 }
 
-/// What a call comes to.
+/// The outcome of a call.
 #[derive(Clone, Copy)]
 pub enum Planned {
     /// It succeeds.

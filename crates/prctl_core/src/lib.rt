@@ -1,4 +1,4 @@
-//! What a call of `prctl(PR_SCHED_CORE, ..)` comes to (`sched_core_share_pid`,
+//! The outcome of a call of `prctl(PR_SCHED_CORE, ..)` (`sched_core_share_pid`,
 //! kernel/sched/core_sched.c): an answer, and if it succeeds, whose cookie becomes which. It
 //! changes no task, so a machine makes the setting of a plan by its own means.
 #![tactic(auto)]

@@ -32,7 +32,7 @@ fn refused(errno: Errno) -> Planned
     Planned::Answer(Reply::Refused(errno))
 }
 
-/// What a GET comes to.
+/// The outcome of a GET.
 fn get(called: &Called<'_>, addr: u64, user_top: u64) -> Planned
     requires user_top { IsWithin 8192 9223372036854775807 user_top }
     ensures { result ≡ get_plan called.now addr user_top }
@@ -74,7 +74,7 @@ fn give(refs: &mut CookieRefs, cookie: Cookie, to: Result<Target, Errno>) -> Pla
     }
 }
 
-/// What a CREATE comes to.
+/// The outcome of a CREATE.
 fn create<G: Guard>(
     table: &TaskTable,
     refs: &mut CookieRefs,
@@ -100,7 +100,7 @@ fn create<G: Guard>(
     }
 }
 
-/// What a command comes to that gives a cookie which a task has.
+/// The outcome of a command that gives a cookie which a task has.
 #[inline(always)]
 fn share(
     table: &TaskTable,
@@ -120,12 +120,12 @@ fn share(
     give(refs, task.cookie, to)
 }
 
-/// What a call of `prctl(PR_SCHED_CORE, ..)` by the task with the pid comes to. `online` siblings are online, of which
+/// The outcome of a call of `prctl(PR_SCHED_CORE, ..)` by the task with the pid. `online` siblings are online, of which
 /// more than two need not be counted, and the caller's address space has `user_top` bytes, 8192 to 9223372036854775807.
 ///
 /// `Answer` carries `NoCaller`, or the error of the first row of the table that applies. `Go` says
 /// whose cookie becomes which, and the answer: `Zero`, or `Value` for a GET. The plan holds one
-/// reference to its cookie, none to 0: who makes the setting gives it back at the end.
+/// reference to its cookie, none to 0: whoever makes the setting gives it back at the end.
 ///
 /// Each guard was asked fewer than 2^62 times. It may be asked about the target and about each member, up
 /// to the first that may not be accessed, and its count stays raised whatever the answer is.

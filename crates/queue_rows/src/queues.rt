@@ -241,7 +241,7 @@ fn key(stamp: u64) -> Key
     }
 }
 
-/// Expects that each queue does so. The ledger of the blank is the one in which their comparisons are counted.
+/// Expects this of each queue. The ledger of the blank is the one in which their comparisons are counted.
 fn expect_queues<L: Ledger, R: AllocGlobal + Abort>(rt: &R, blank: Blank)
     requires name { blank.name ≡ L.name }
     requires parts { blank.parts ≡ L.parts }

@@ -1,5 +1,5 @@
-//! A host as one would find it: two guests of four tasks each, each guest under one cookie, and a task that
-//! keeps house, over 220 rounds in which each sibling ticks and takes its turn.
+//! A host as one would find it: two guests of four tasks each, each guest under one cookie, and a housekeeping task,
+//! over 220 rounds in which each sibling ticks and takes its turn.
 
 ghost use Rattle.std.specs.Prelude.{◌≡◌};
 

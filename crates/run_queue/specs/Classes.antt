@@ -32,7 +32,7 @@ seated_of queue =
 abbrev pub Holds : ℕ → Ranked → Type 0
 Holds limit queue = limit ≤ len queue.members + queue.spare
 
--- There are as many tasks as the limit at most, each of which every class can take.
+-- There are at most as many tasks as the limit, each of which every class can take.
 pub record IsSound {A : Type 0} (queue : Inside A) : Type 0 where
   pub few : count queue ≤ queue.limit
   pub limit_fits : queue.limit < 2 ^ 32

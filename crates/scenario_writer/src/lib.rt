@@ -1,4 +1,4 @@
-//! A scenario's text, written to a sink. No program writes one. Who makes scenarios can, as the tests do.
+//! A scenario's text, written to a sink. No program writes one. Code that makes scenarios can, as the tests do.
 #![tactic(auto)]
 
 mod fields;

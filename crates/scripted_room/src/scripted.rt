@@ -74,7 +74,7 @@ impl<R: Room, N: Named> Scripted<R, N> {
             + N.opening.scenario.siblings * N.opening.scenario.siblings
             ≤ length (R.history self.new) + R.spare self.new }
 
-        // Whoever has made its whole script keeps it so.
+        // An actor that has made its whole script stays done.
         ensures made { (other : _) →
             events_by other (R.history self.old) ≡ script N.opening.scenario other →
             events_by other (R.history self.new) ≡ script N.opening.scenario other }

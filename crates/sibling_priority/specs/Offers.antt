@@ -37,8 +37,8 @@ IsInRange offer = offer.class ≡ fair_class → (offer.rank < 2 ^ 127) × (offe
 -- ---- how an offer stands
 
 -- The rank of a first task among those of its class on all siblings, by the snapshot of its own sibling, its class and
--- its rank: its rank. Of a fair one the snapshot is taken off, and a number that no snapshot comes to is added before,
--- so that nothing is below 0.
+-- its rank: its rank. From that of a fair one the snapshot is taken off, after a number is added that no snapshot comes
+-- to, so that nothing is below 0.
 abbrev pub rank_across : ℕ → ℕ → ℕ → ℕ
 rank_across snapshot class rank = if class == fair_class then rank + 2 ^ 127 - snapshot else rank
 

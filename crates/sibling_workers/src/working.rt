@@ -67,7 +67,7 @@ fn work_each<T: Threads + Wait + Sync, R: Room + Send, G: Gate + Sync>(
 /// Makes all steps of the passes, each pass in a worker of its own. Before each step a worker passes the gate, even
 /// before the call that finds the pass spent. Its number there is the place of its pass in the list, from 0.
 ///
-/// The passes are of this lock. Afterwards each is so still, stands at its place with its list, and has made all its
+/// The passes are of this lock. Afterwards each still is, stands at its place with its list, and has made all its
 /// steps. It takes no memory.
 pub fn work<T: Threads + Wait + Sync, R: Room + Send, G: Gate + Sync>(
     rt: &T,

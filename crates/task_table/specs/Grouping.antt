@@ -16,7 +16,7 @@ no_span = record { count = 0; least = 0 }
 abbrev pub span_at : List Span → ℕ → Span
 span_at spans place = slice_index_or spans place no_span
 
--- a task with the pid comes to a group of the span
+-- a task with the pid joins a group of the span
 pub record Joins (pid : ℕ) (old new : Span) : Type 0 where
   pub count : new.count ≡ old.count + 1
   pub own : new.least ≤ pid

@@ -1,4 +1,4 @@
--- Moves: tasks come to another sibling, one after another.
+-- Moves: tasks move to another sibling, one after another.
 use Rattle.std.specs.Prelude.{ℕ, zero, suc, ◌+◌, ◌-◌, ◌%◌, ◌^◌, if◌then◌else◌, List, map, slice_index_or}
 use Rattle.cs_types.specs.declared.task.Task.{Task}
 use Rattle.cs_types.specs.Room.{has_pid}

@@ -36,7 +36,7 @@ fn place_of(number: u32) -> usize
     number as usize % SPANS
 }
 
-/// The span once a task with the pid came to one of its groups.
+/// The span once a task with the pid joined one of its groups.
 fn joined(span: Span, pid: Pid) -> Span
     requires { span.count + 1 < 2 ^ 16 }
     ensures { Joins pid span result }
@@ -68,7 +68,7 @@ impl Spans {
         self.all[place_of(number)]
     }
 
-    /// A task with the pid comes to the group with the number.
+    /// A task with the pid joins the group with the number.
     pub fn add(&mut self, number: u32, pid: Pid)
         requires few { (span_at self.old.all.items (place_of number)).count + 1 < 2 ^ 16 }
         ensures { (members : List (ℕ × ℕ)) (position : ℕ) → AreSpans self.old.all.items members →
@@ -89,7 +89,7 @@ impl Spans {
         self.all[place_of(number)].count -= 1;
     }
 
-    /// The task with the pid leaves the one group and comes to the other.
+    /// The task with the pid leaves the one group and joins the other.
     pub fn move_between(&mut self, from: u32, to: u32, pid: Pid)
         requires { Counts self.old.all.items from pid }
         ensures { (members : List (ℕ × ℕ)) (position : ℕ) → HasMember members position (from, pid) →
