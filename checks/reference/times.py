@@ -103,10 +103,10 @@ class Times:
         self.waits, self.going_on = {}, {}
         self.pending = self.total = 0
         for _, event, text in scenario.steps:
+            self.see_runs()
             if event[0] == 'advance':
                 self.pass_time(event[1])
             left = leaving(self.room, event)
-            self.see_runs()
             self.room.apply(event, text)
             self.see_wakes(event)
             if left is not None and left[0] not in self.room.tasks:

@@ -226,13 +226,8 @@ pub(crate) fn write_waits<K: Sink>(sink: &mut K, tasks: &[TaskWaits]) -> Result<
     Ok(())
 }
 
-/// Writes for how long tasks that are told apart ran side by side.
-pub(crate) fn write_side<K: Sink>(
-    sink: &mut K,
-    name: &str,
-    times: SideBySide,
-    total: u64,
-) -> Result<(), Failed>
+/// Writes the heading of what ran side by side.
+pub(crate) fn write_side_heading<K: Sink>(sink: &mut K) -> Result<(), Failed>
     ensures faultless { OnOk result (K.faults sink.new ≡ K.faults sink.old) }
     ensures failed { OnErr result (Rose (K.faults sink.old) (K.faults sink.new)) }
 {
@@ -244,7 +239,19 @@ pub(crate) fn write_side<K: Sink>(
             (Cell::Text("%"), SHARE),
             (Cell::Text("longest ms"), TIME),
         ],
-    )?;
+    )
+}
+
+/// Writes for how long tasks that are told apart ran side by side.
+pub(crate) fn write_side<K: Sink>(
+    sink: &mut K,
+    name: &str,
+    times: SideBySide,
+    total: u64,
+) -> Result<(), Failed>
+    ensures faultless { OnOk result (K.faults sink.new ≡ K.faults sink.old) }
+    ensures failed { OnErr result (Rose (K.faults sink.old) (K.faults sink.new)) }
+{
     write_line(
         sink,
         &[

@@ -5,7 +5,8 @@ ghost use Rattle.cs_outside.specs.Device.{Rose};
 
 use crate::cell::{Cell, Side, write_line};
 use crate::parts::{
-    write_cookies, write_pairs, write_replies, write_siblings, write_side, write_tasks, write_waits,
+    write_cookies, write_pairs, write_replies, write_siblings, write_side, write_side_heading,
+    write_tasks, write_waits,
 };
 use cs_outside::{Failed, Sink};
 use run_summary::RunSummary;
@@ -50,6 +51,7 @@ pub fn table<K: Sink>(summary: &RunSummary, sink: &mut K) -> Result<(), Failed>
     write_tasks(sink, summary.tasks().tasks(), total)?;
     write_cookies(sink, summary.tasks().cookies())?;
     write_waits(sink, summary.waits().rows())?;
+    write_side_heading(sink)?;
     write_side(
         sink,
         "tasks with distinct cookies (exposed)",
