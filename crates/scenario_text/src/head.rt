@@ -10,16 +10,16 @@ use crate::number::{parse_number, parse_u8};
 use crate::words::{is_word, slots};
 
 /// The greatest number of SMT siblings of a core. The least is 1.
-const MOST_SIBLINGS_IN_TEXT: u8 = 8;
+pub const MOST_SIBLINGS_IN_TEXT: u8 = 8;
 
 /// The greatest limit of tasks or cookies that live at once. The least is 1.
-const MOST_LIMIT: u64 = 256;
+pub const MOST_LIMIT: u64 = 256;
 
 /// The least end of a caller's address space, in bytes.
-const LEAST_TOP: u64 = 8192;
+pub const LEAST_TOP: u64 = 8192;
 
 /// The greatest end of a caller's address space, in bytes.
-const MOST_TOP: u64 = 9_223_372_036_854_775_807;
+pub const MOST_TOP: u64 = 9_223_372_036_854_775_807;
 
 /// What the first three lines say: a scenario's numbers, without its tasks and steps.
 #[derive(Clone, Copy)]

@@ -3,6 +3,7 @@
 
 mod fault;
 mod head;
+pub mod limits;
 mod line;
 mod lines;
 mod number;
@@ -17,5 +18,6 @@ mod words;
 mod writing;
 
 pub use fault::{BadKind, ReadFault};
+pub use number::{parse_number, parse_signed};
 pub use reading::read;
 pub use writing::Line;

@@ -63,7 +63,7 @@ pub(crate) fn first_digits(text: &[u8]) -> (u64, usize)
 }
 
 /// The number from `low` to `high` that the word spells.
-pub(crate) fn parse_number(word: &[u8], low: u64, high: u64) -> Result<u64, BadKind>
+pub fn parse_number(word: &[u8], low: u64, high: u64) -> Result<u64, BadKind>
     ensures spelled { MatchResult result (λ n. (is_number low high word.now ≡ true) × (n ≡ value word.now))
         (λ kind. (is_number low high word.now ≡ false) × (kind ≡ Number)) }
     ensures within { IfOk result (λ n. IsWithin low high n) }
@@ -99,7 +99,7 @@ pub(crate) fn parse_u8(word: &[u8], low: u8, high: u8) -> Result<u8, BadKind>
 /// The number from `-below` to `above` that the word spells: where it is negative, `-` and the digits of
 /// its magnitude.
 #[tactic(auto, unfolding(crate::specs::Grammar::is_signed))]
-pub(crate) fn parse_signed(word: &[u8], below: u32, above: u32) -> Result<i64, BadKind>
+pub fn parse_signed(word: &[u8], below: u32, above: u32) -> Result<i64, BadKind>
     ensures spelled { MatchResult result (λ n. (is_signed below above word.now ≡ true) × (n ≡ signed_value word.now))
         (λ kind. (is_signed below above word.now ≡ false) × (kind ≡ Number)) }
     ensures least { IfOk result (λ number. neg_ℤ (pos below) ≤ℤ number) }

@@ -13,10 +13,10 @@ use std::alloc::Global;
 const HEAD_LINES: usize = 3;
 
 /// How many teach lines a scenario has at most.
-const MOST_TEACHES: usize = 64;
+pub const MOST_TEACHES: usize = 64;
 
 /// How many steps a scenario has at most.
-pub(crate) const MOST_STEPS: usize = 100_000;
+pub const MOST_STEPS: usize = 100_000;
 
 /// The tasks, the teach lines and the steps that are read.
 #[derive(Drop)]

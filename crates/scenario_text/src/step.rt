@@ -15,19 +15,19 @@ use crate::words::is_word;
 use cs_types::{Actor, Ask, Cpu, Event, Step};
 
 /// The greatest number of a caller. The least is 0.
-pub(crate) const MOST_CALLER: u8 = 7;
+pub const MOST_CALLER: u8 = 7;
 
 /// The greatest pid that a caller may name, of a task or of none. The least is 1.
-pub(crate) const MOST_NAMED_PID: u32 = 999_999;
+pub const MOST_NAMED_PID: u32 = 999_999;
 
 /// How far below 0 the target of a `prctl` may be, a number of 32 bits with a sign.
-pub(crate) const MOST_TARGET_BELOW: u32 = 2_147_483_648;
+pub const MOST_TARGET_BELOW: u32 = 2_147_483_648;
 
 /// How far above 0 the target of a `prctl` may be.
-pub(crate) const MOST_TARGET_ABOVE: u32 = 2_147_483_647;
+pub const MOST_TARGET_ABOVE: u32 = 2_147_483_647;
 
 /// The greatest advance of the clock, in ns. The least is 1.
-pub(crate) const MOST_ADVANCE: u64 = 1_000_000_000;
+pub const MOST_ADVANCE: u64 = 1_000_000_000;
 
 /// Whether the word says what a child is to be.
 fn has_child_shape(word: &[u8]) -> bool

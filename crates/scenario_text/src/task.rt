@@ -12,22 +12,22 @@ use crate::words::is_word;
 use cs_types::{Creds, Policy, TaskSpec};
 
 /// The greatest number of a task, a thread group or a process group. The least is 1.
-const MOST_PID: u32 = 9999;
+pub const MOST_PID: u32 = 9999;
 
 /// The greatest relative deadline, in ns. The least is 1.
-const MOST_DEADLINE: u64 = 1_000_000_000;
+pub const MOST_DEADLINE: u64 = 1_000_000_000;
 
 /// The greatest priority of `SCHED_FIFO` and `SCHED_RR`. The least is 1.
-const MOST_PRIORITY: u8 = 99;
+pub const MOST_PRIORITY: u8 = 99;
 
 /// How far below 0 a nice value may be.
-const MOST_NICE_BELOW: u32 = 20;
+pub const MOST_NICE_BELOW: u32 = 20;
 
 /// How far above 0 a nice value may be.
-const MOST_NICE_ABOVE: u32 = 19;
+pub const MOST_NICE_ABOVE: u32 = 19;
 
 /// The greatest user or group id. The least is 0.
-pub(crate) const MOST_ID: u32 = 65535;
+pub const MOST_ID: u32 = 65535;
 
 /// A nice value.
 fn parse_nice(word: &[u8]) -> Result<i8, BadKind>

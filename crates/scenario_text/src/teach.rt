@@ -10,7 +10,7 @@ use crate::task::MOST_ID;
 use cs_types::Teach;
 
 /// The greatest number of a guard. The least is 0.
-pub(crate) const MOST_GUARD: u8 = 15;
+pub const MOST_GUARD: u8 = 15;
 
 /// The words of a teach line, which is the line of this number. The first of them is `teach`.
 pub(crate) fn parse_teach(words: &[&[u8]], line: u32) -> Result<Teach, BadKind>
