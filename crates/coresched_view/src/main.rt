@@ -29,8 +29,10 @@ fn execute<R: AllocGlobal>(
         Ok(guards) => guards,
         Err(status) => return status,
     };
+    // Of a bad input something may be written too, so only a sink that failed is not flushed.
     match run::<Machine, StdSource, StdSink, PairGuard>(rt.alloc(), words, source, sink, guards) {
-        Status::Done if sink.flush().is_err() => Status::WriteFault,
+        Status::WriteFault => Status::WriteFault,
+        _ if sink.flush().is_err() => Status::WriteFault,
         status => status,
     }
 }

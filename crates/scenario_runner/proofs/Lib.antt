@@ -5,5 +5,5 @@ pub mod Drills
 mod Runs
 mod Totals
 mod Outputs
-mod Openings
+pub mod Openings
 pub mod Writes

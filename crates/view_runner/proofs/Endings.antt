@@ -52,7 +52,7 @@ pub record IsOpened {S : Type 0} (caps : List ℕ) (source : Used S) (scenario :
   pub begins : opening ≡ opened_with caps scenario
 
 -- what was read of the input
-is_taken : {S T : Type 0} (caps : List ℕ) (source : Used S) (read : Result T Stop) (value : T) (scenario : Scenario) (opening : Opening) →
+pub is_taken : {S T : Type 0} (caps : List ℕ) (source : Used S) (read : Result T Stop) (value : T) (scenario : Scenario) (opening : Opening) →
     HasRead caps source read → read ≡ Ok value → IsOpened caps source scenario opening → IsTaken caps source scenario
 is_taken caps source read value scenario opening has is opened =
     record {

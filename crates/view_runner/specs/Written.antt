@@ -1,10 +1,10 @@
 -- Written: what is so once something was told of a run, or the run was drawn, or the sink failed.
-use Rattle.std.specs.Prelude.{◌≡◌, ◌⊎◌, ℕ, List}
+use Rattle.std.specs.Prelude.{◌≡◌, ◌⊎◌, ℕ, List, Some, None}
 use Rattle.cs_types.specs.declared.event.Step.{Step}
 use Rattle.cs_types.specs.Room.{Opening}
 use Rattle.cs_types.specs.History.{History, history_of}
 use Rattle.cs_types.specs.Drain.{IsDrained}
-use Rattle.cs_outside.specs.Device.{Rose}
+use Rattle.cs_outside.specs.Device.{Rose, appended, WritesPrefix}
 use Rattle.run_segments.specs.declared.segments.Segment.{Segment}
 use Rattle.segment_text.specs.Table.{segments_text}
 use Rattle.segment_text.specs.Json.{segments_json_text}
@@ -12,6 +12,7 @@ use Rattle.scenario_input.specs.declared.status.Status.{Status}
 use Rattle.scenario_input.specs.declared.status.Status.TheVariants.{Done, WriteFault, OutOfMemory}
 use Rattle.scenario_runner.specs.Ends.{Used, IsFaultless}
 use Rattle.scenario_runner.specs.Written.{IsWritten, IsShort}
+use Rattle.fault_text.specs.Faults.{fault_line, BeginsWith}
 use Rattle.view_runner.specs.Ends.{AreSegmentsOf, EndsAsTold, EndsAsShown}
 use Rattle.run_summary.specs.Summaries.{Summary, IsSummaryOf}
 use Rattle.times_report.specs.Summary.{summary_text}
@@ -38,6 +39,15 @@ pub record IsShown {K : Type 0} (sink : Used K) (ended : Status) : Type 0 where
   pub faultless : ended ≡ Done → IsFaultless sink
   pub failed : ended ≡ WriteFault → Rose (sink.faults sink.before) (sink.faults sink.after)
   pub unwritten : ended ≡ OutOfMemory → sink.after ≡ sink.before
+
+-- ---- explained
+
+-- A text was written of an input that ends so, which begins with the line of that, or the sink failed; or there is no such
+-- line, and nothing was written.
+pub data Says {K : Type 0} (sink : Used K) (status : Status) : Status → Type 0 where
+  said : (line text : List ℕ) → fault_line status ≡ Some line → BeginsWith line text → sink.bytes sink.after ≡ appended (sink.bytes sink.before) text → IsFaultless sink → Says sink status status
+  broken_off : (line text : List ℕ) → fault_line status ≡ Some line → BeginsWith line text → WritesPrefix (sink.bytes sink.before) text (sink.bytes sink.after) → Rose (sink.faults sink.before) (sink.faults sink.after) → Says sink status WriteFault
+  nothing : fault_line status ≡ None → sink.after ≡ sink.before → Says sink status status
 
 -- ---- the forms
 

@@ -6,6 +6,7 @@ ghost use Rattle.view_words.specs.Asks.{Asks};
 ghost use Rattle.ptrace_check.specs.Guards.{AreFresh};
 ghost use Rattle.view_runner.specs.Ends.{EndsBy};
 
+use crate::explained::explained;
 use crate::played::{SummaryForm, summarized};
 use crate::shown::{Form, shown};
 use cs_outside::{Guard, Sink, Source};
@@ -19,8 +20,9 @@ use view_words::{Command, command_of};
 /// `coresched replay` does, and writes what the command of the words shows of the run. It waits for nobody and always
 /// returns.
 ///
-/// With the word `summary` it writes for how long what was so, with `table` the same for a person, with `segments` and `segments-json` what each sibling did
-/// when, as a table and as lines of JSON, and with `picture` the same, drawn. Other words are refused.
+/// With the word `summary` it writes for how long what was so, with `table` the same for a person, with `segments` and
+/// `segments-json` what each sibling did when, as a table and as lines of JSON, and with `picture` the same, drawn. With
+/// `explain` it plays nothing: it writes what a scenario has, or what is wrong with the text. Other words are refused.
 /// Both counts of faults have to be below 2^64 - 1. At most 16 guards are handed in, which refuse nobody yet and were never
 /// asked. The scenario teaches them before it is played, and they are dropped at the end. `R` is the machine that plays
 /// it.
@@ -55,6 +57,7 @@ pub fn run<R: FromScenario<Guards<G>>, S: Source, K: Sink, G: Guard>(
         Some(Command::Segments) => shown::<R, S, K, G>(alloc, Form::Table, source, sink, guards),
         Some(Command::SegmentsJson) => shown::<R, S, K, G>(alloc, Form::Json, source, sink, guards),
         Some(Command::Picture) => shown::<R, S, K, G>(alloc, Form::Picture, source, sink, guards),
+        Some(Command::Explain) => explained::<S, K, G>(alloc, source, sink, guards),
         None => Status::BadWords,
     }
 }

@@ -2,6 +2,7 @@
 #![tactic(auto)]
 
 mod command;
+mod explained;
 mod played;
 mod shown;
 

@@ -3,7 +3,7 @@ use Rattle.std.specs.Prelude.{◌≡◌, ℕ, List, [], ◌∷◌, map, codes, S
 use Rattle.std.specs.declared.alloc.Global.{Global}
 use Rattle.std.specs.String.{string_bytes}
 use Rattle.view_words.specs.declared.command.Command.{Command}
-use Rattle.view_words.specs.declared.command.Command.TheVariants.{Summary, Table, Segments, SegmentsJson, Picture}
+use Rattle.view_words.specs.declared.command.Command.TheVariants.{Summary, Table, Segments, SegmentsJson, Picture, Explain}
 
 -- the word of a command
 abbrev pub word_of : Command → List ℕ
@@ -12,6 +12,7 @@ word_of Table = codes "table"
 word_of Segments = codes "segments"
 word_of SegmentsJson = codes "segments-json"
 word_of Picture = codes "picture"
+word_of Explain = codes "explain"
 
 -- the words ask for the command: they are its word alone
 abbrev pub Asks : Command → List (String Global) → Type 0

@@ -7,7 +7,7 @@ ghost use Rattle.view_words.specs.Asks.{Asks, word_of};
 use command_words::{CommandForm, read_words};
 use std::alloc::Global;
 
-/// What the program is asked to show of a run.
+/// What the program is asked to show of a run, or of a text.
 #[derive(Clone, Copy)]
 pub enum Command {
     /// `summary`: for how long what was so.
@@ -20,6 +20,8 @@ pub enum Command {
     SegmentsJson,
     /// `picture`: the same, drawn.
     Picture,
+    /// `explain`: nothing of a run, but what is wrong with the text.
+    Explain,
 }
 
 /// The forms of the commands.
@@ -44,6 +46,10 @@ const FORMS: [CommandForm<'static>; 5] = [
         name: "picture",
         takes_value: false,
     },
+    CommandForm {
+        name: "explain",
+        takes_value: false,
+    },
 ];
 
 /// The command of this name, where no value follows it.
@@ -57,6 +63,7 @@ fn named(name: &str, value: Option<&str>) -> Option<Command>
         ("segments", None) => Some(Command::Segments),
         ("segments-json", None) => Some(Command::SegmentsJson),
         ("picture", None) => Some(Command::Picture),
+        ("explain", None) => Some(Command::Explain),
         _ => None,
     }
 }

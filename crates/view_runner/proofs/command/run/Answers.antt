@@ -1,5 +1,5 @@
 use Rattle.std.proofs.Common.{◌∙◌, ap, Some}
-use Rattle.view_words.specs.declared.command.Command.TheVariants.{Summary, Table, Segments, SegmentsJson, Picture}
+use Rattle.view_words.specs.declared.command.Command.TheVariants.{Summary, Table, Segments, SegmentsJson, Picture, Explain}
 use Rattle.view_runner.proofs.Asked.{known_words}
 use Rattle.view_runner.proofs.command.run.Goals as goal
 
@@ -22,3 +22,7 @@ returns-in-Some-SegmentsJson-clause-bad_words g c =
 pub returns-in-Some-Picture-clause-bad_words : goal.returns-in-Some-Picture-clause-bad_words
 returns-in-Some-Picture-clause-bad_words g c =
     known_words c.command_of.result c.args.words.now Picture c.shown-in-Some-Picture.result c.command_of.ensures.asked (c.in-Some-Picture.is ∙ ap Some c.in-Some-Picture.field-0-is) c.shown-in-Some-Picture.ensures.good_words
+
+pub returns-in-Some-Explain-clause-bad_words : goal.returns-in-Some-Explain-clause-bad_words
+returns-in-Some-Explain-clause-bad_words g c =
+    known_words c.command_of.result c.args.words.now Explain c.explained.result c.command_of.ensures.asked (c.in-Some-Explain.is ∙ ap Some c.in-Some-Explain.field-0-is) c.explained.ensures.good_words
