@@ -6,7 +6,7 @@ pub(crate) fn is_line_feed(byte: &u8) -> bool {
 }
 
 /// Whether the byte stands between two words.
-fn is_space(byte: &u8) -> bool {
+pub(crate) fn is_space(byte: &u8) -> bool {
     *byte == b' '
 }
 

@@ -52,7 +52,7 @@ fn explain_order(said: &mut Sentence, name: &[u8]) {
         "no task line stands after a teach line or a step line"
     } else {
         "no teach line stands after a step line"
-    })
+    });
 }
 
 /// Says that a line with this first word has no form that may stand here.

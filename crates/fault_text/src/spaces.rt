@@ -3,7 +3,7 @@
 
 ghost use Rattle.std.specs.Prelude.{◌≤◌, IfSome};
 
-use crate::lines::{count_of_words, word_at};
+use crate::lines::{count_of_words, is_space};
 use crate::sentence::{Piece, Sentence};
 
 /// What a text begins with that some editors mark as UTF-8.
@@ -16,9 +16,9 @@ fn begins_comment(word: &[u8]) -> bool {
 
 /// The number of the first word that begins a comment, from 1.
 fn comment_in(line: &[u8]) -> Option<usize> {
-    for number in 1..=count_of_words(line) {
-        if begins_comment(word_at(line, number)) {
-            return Some(number);
+    for (before, word) in line.split(is_space).enumerate() {
+        if begins_comment(word) {
+            return Some(before.saturating_add(1));
         }
     }
     None
@@ -28,9 +28,9 @@ fn comment_in(line: &[u8]) -> Option<usize> {
 fn gap_in(line: &[u8]) -> Option<usize>
     ensures { IfSome result (λ number. 1 ≤ number) }
 {
-    for number in 1..=count_of_words(line) {
-        if word_at(line, number).is_empty() {
-            return Some(number);
+    for (before, word) in line.split(is_space).enumerate() {
+        if word.is_empty() {
+            return Some(before.saturating_add(1));
         }
     }
     None

@@ -37,7 +37,7 @@ fn explain_actors(said: &mut Sentence) {
     said.text("\n");
 }
 
-/// Who can do what has this name, and cannot what the actor does.
+/// Who can do what has this name.
 fn owner_of(name: &[u8]) -> Option<ActorForm> {
     for actor in ACTORS {
         if form_named(actor.events, name).is_some() {
@@ -104,7 +104,7 @@ pub(crate) fn explain_step_shape(said: &mut Sentence, looked: Looked) {
         Some((actor, _)) => explain_actor_shape(said, looked, actor),
         None => {
             explain_word(said, 2, "ACTOR", word);
-            explain_actors(said)
+            explain_actors(said);
         }
     }
 }
