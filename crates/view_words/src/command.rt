@@ -25,7 +25,7 @@ pub enum Command {
 }
 
 /// The forms of the commands.
-const FORMS: [CommandForm<'static>; 5] = [
+const FORMS: [CommandForm<'static>; 6] = [
     CommandForm {
         name: "summary",
         takes_value: false,
