@@ -22,6 +22,7 @@ WORDS = [[], [''], ['summary', ''], ['', 'summary'], ['summary', 'summary'], ['-
          ['-'], ['--'], ['--', 'summary'], ['summary', '--'], ['summary', '--help'], ['summary', 'help'], ['Summary'], ['summar'], ['summarys'], ['s'],
          ['segment'], ['segmentsjson'], ['segments json'], ['segments', 'json'], ['segments-jsons'], ['segments', 'segments'], ['segments', 'summary'],
          ['segments-json', '--help'], ['pictures'], ['picture', 'picture'], ['picture', '-o'], ['Picture'], ['help', 'picture'],
+         ['tables'], ['Table'], ['table', 'table'], ['table', '--help'], ['explains'], ['Explain'], ['explain', 'summary'], ['help', 'explain'],
          ['summary\n'], ['summ\u00e1ry'], ['replay'], ['coresched_view'], ['coresched_view', 'summary']]
 
 
