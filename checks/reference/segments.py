@@ -86,18 +86,18 @@ def sums(rows, siblings):
         def took(holds):
             return sum(row[1] - row[0] for row in rows if row[2] == cpu and holds(*row[3:]))
         text.append('cpu %d ran %d idle %d offline %d pending %d' % (
-            cpu, took(lambda state, *_: state == 'running'), took(lambda state, cookie, pending, forced, pid: state == 'idle' and not forced),
+            cpu, took(lambda state, *_: state == 'running'), took(lambda state, cookie, pending, forced, *_: state == 'idle' and not forced),
             took(lambda state, *_: state == 'offline'), took(lambda state, cookie, pending, *_: pending)))
         text.append('forced %d cookie %d none %d' % (
-            cpu, took(lambda state, cookie, pending, forced, pid: forced and cookie), took(lambda state, cookie, pending, forced, pid: forced and not cookie)))
+            cpu, took(lambda state, cookie, pending, forced, *_: forced and cookie), took(lambda state, cookie, pending, forced, *_: forced and not cookie)))
     return [*text, 'total %d' % total]
 
 
 def row_of(line):
     """A row of the table as it is read."""
-    begin, end, sibling, state, cookie, pending, forced, pid = line.split('\t')
+    begin, end, sibling, state, cookie, pending, forced, pid, group = line.split('\t')
     number = lambda text: None if text == '' else int(text)
-    return [int(begin), int(end), int(sibling), state, number(cookie), {'yes': True, 'no': False}[pending], {'yes': True, 'no': False}[forced], number(pid)]
+    return [int(begin), int(end), int(sibling), state, number(cookie), {'yes': True, 'no': False}[pending], {'yes': True, 'no': False}[forced], number(pid), number(group)]
 
 
 def faults(program, text):

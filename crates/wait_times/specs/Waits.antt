@@ -1,4 +1,5 @@
--- Waits: for how long a task waits from a wake until a sibling runs it (the delays of `perf sched latency`).
+-- Waits: for how long a task waits from a wake until a sibling runs it (`sch delay` of `perf sched timehist`: from
+-- `sched_wakeup` or `sched_wakeup_new` to the `sched_switch` to it).
 use Rattle.std.specs.Prelude.{ℕ, ◌==◌, ◌||◌, not, Bool, false, if◌then◌else◌, List, [], ◌∷◌, ◌++◌, sum_by, Option, Some, None}
 use Rattle.std.specs.List.{list_any, take_while}
 use Rattle.std.specs.Option.{option_map_or}
