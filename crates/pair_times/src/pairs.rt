@@ -64,7 +64,8 @@ impl PairTimes {
         requires few { length steps.now < 2 ^ 34 }
         ensures by { IfOk result (λ pairs. pairs.by ≡ by) }
         ensures none { IfOk result (λ pairs. (opening : Opening) → ArePairsOf opening [] pairs) }
-        ensures spare { IfOk result (λ pairs. sum_by (λ step. most_rows siblings step.event) steps.now ≤ pairs.spare) }
+        ensures spare { IfOk result
+            (λ pairs. sum_by (λ step. most_rows siblings step.event) steps.now ≤ pairs.spare) }
     {
         Ok(PairTimes {
             by,
@@ -84,7 +85,8 @@ impl PairTimes {
         ensures by { self.new.by ≡ self.old.by }
         ensures pairs { (entry : Entry) → entry.event ≡ event →
             ArePairsOf (R.opening room.now) (R.history room.now ++ entry ∷ []) self.new }
-        ensures spare { self.old.spare ≤ self.new.spare + most_rows (R.opening room.now).scenario.siblings event }
+        ensures spare { self.old.spare
+            ≤ self.new.spare + most_rows (R.opening room.now).scenario.siblings event }
     {
         if let Some(time) = advance_of(event) {
             add_each(&mut self.rows, keys_run(room, self.by).as_slice(), time);

@@ -21,7 +21,8 @@ pub struct PairTime {
 fn position_of(rows: &[PairTime], low: u64, high: u64) -> usize
     requires { AreRows rows.now }
     ensures bound { result ≤ length rows.now }
-    ensures point { IsPartitionPoint (λ row. goes_before row low high ≡ true) (λ row. goes_before row low high ≡ false)
+    ensures point { IsPartitionPoint (λ row. goes_before row low high ≡ true)
+        (λ row. goes_before row low high ≡ false)
         rows.now result }
 {
     rows.partition_point(|row| row.low < low || row.low == low && row.high < high)

@@ -37,7 +37,8 @@ fn goes_on_with(segment: Segment, next: Segment) -> bool
 impl KeptSegments {
     /// The segments of a core with this number of siblings, before the first advance.
     pub(crate) fn none(alloc: Global, siblings: u8) -> Result<Self, AllocError>
-        ensures { IfOk result (λ none. none ≡ record { segments = []; places = replicate siblings 0 }) }
+        ensures { IfOk result
+            (λ none. none ≡ record { segments = []; places = replicate siblings 0 }) }
     {
         Ok(KeptSegments {
             segments: Vec::new(alloc),

@@ -44,10 +44,14 @@ pub(crate) fn now_of<R: Room>(room: &R, cpu: Cpu, queued: &mut Queued) -> Now
     requires cpu { cpu < (R.opening room.now).scenario.siblings }
     requires marks { let opening = R.opening room.now in
         AreMarksOf opening.scenario.siblings (fold_of opening (R.history room.now)) queued.old }
-    ensures pid { result.pid ≡ segments.pid_run (fold_of (R.opening room.now) (R.history room.now)) cpu }
-    ensures group { result.group ≡ segments.group_run (fold_of (R.opening room.now) (R.history room.now)) cpu }
-    ensures doing { result.doing ≡ doing.doing_of (fold_of (R.opening room.now) (R.history room.now)) cpu }
-    ensures pending { result.pending ≡ doing.is_pending (fold_of (R.opening room.now) (R.history room.now)) cpu }
+    ensures pid { result.pid
+        ≡ segments.pid_run (fold_of (R.opening room.now) (R.history room.now)) cpu }
+    ensures group { result.group
+        ≡ segments.group_run (fold_of (R.opening room.now) (R.history room.now)) cpu }
+    ensures doing { result.doing
+        ≡ doing.doing_of (fold_of (R.opening room.now) (R.history room.now)) cpu }
+    ensures pending { result.pending
+        ≡ doing.is_pending (fold_of (R.opening room.now) (R.history room.now)) cpu }
     ensures marks { let opening = R.opening room.now in
         AreMarksOf opening.scenario.siblings (fold_of opening (R.history room.now)) queued.new }
 {

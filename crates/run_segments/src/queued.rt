@@ -31,7 +31,8 @@ impl Model for Queued {
 /// Marks the home of a task that is queued.
 fn mark_home(marks: &mut [bool], task: TaskView)
     ensures { (cpu : ℕ) (none : Bool) → cpu < length marks.old →
-        slice_index_or marks.new cpu none ≡ (slice_index_or marks.old cpu none || (task.queued && (task.cpu == cpu))) }
+        slice_index_or marks.new cpu none
+        ≡ (slice_index_or marks.old cpu none || (task.queued && (task.cpu == cpu))) }
 {
     let home = usize::from(task.cpu);
     if task.queued && home < marks.len() {
@@ -43,7 +44,8 @@ fn mark_home(marks: &mut [bool], task: TaskView)
 fn mark_queued<R: Room>(room: &R, marks: &mut [bool])
     requires { IsPlayable (R.opening room.now).scenario }
     ensures { (cpu : ℕ) (none : Bool) → cpu < length marks.old →
-        slice_index_or marks.new cpu none ≡ has_queued (fold_of (R.opening room.now) (R.history room.now)) cpu }
+        slice_index_or marks.new cpu none
+        ≡ has_queued (fold_of (R.opening room.now) (R.history room.now)) cpu }
 {
     marks.fill(false);
     let mut pid = 0;
@@ -70,7 +72,8 @@ impl Queued {
         requires cpu { cpu < (R.opening room.now).scenario.siblings }
         requires marks { let opening = R.opening room.now in
             AreMarksOf opening.scenario.siblings (fold_of opening (R.history room.now)) self.old }
-        ensures queued { result ≡ has_queued (fold_of (R.opening room.now) (R.history room.now)) cpu }
+        ensures queued { result
+            ≡ has_queued (fold_of (R.opening room.now) (R.history room.now)) cpu }
         ensures marks { let opening = R.opening room.now in
             AreMarksOf opening.scenario.siblings (fold_of opening (R.history room.now)) self.new }
     {

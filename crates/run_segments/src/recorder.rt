@@ -61,7 +61,8 @@ fn keep_moment(moments: &mut Vec<u64>, clock: u64) -> Result<(), OutOfMemory> {
 impl Recorder {
     /// What a run of a core with this number of siblings showed before its first step.
     pub(crate) fn none(alloc: Global, siblings: u8) -> Result<Self, OutOfMemory>
-        ensures { IfOk result (λ recorder. (opening : Opening) → opening.scenario.siblings ≡ siblings →
+        ensures { IfOk result
+            (λ recorder. (opening : Opening) → opening.scenario.siblings ≡ siblings →
             IsRecordOf opening [] recorder.segments recorder.queued) }
     {
         Ok(Recorder {
@@ -80,13 +81,18 @@ impl Recorder {
         requires events { AreEvents (R.opening room.now) (R.history room.now) }
         requires each { length self.old.segments.places ≡ (R.opening room.now).scenario.siblings }
         requires marks { let opening = R.opening room.now in
-            AreMarksOf opening.scenario.siblings (fold_of opening (R.history room.now)) self.old.queued }
-        ensures each { OnOk result (length self.new.segments.places ≡ (R.opening room.now).scenario.siblings) }
+            AreMarksOf opening.scenario.siblings
+            (fold_of opening (R.history room.now)) self.old.queued }
+        ensures each { OnOk result (length self.new.segments.places
+            ≡ (R.opening room.now).scenario.siblings) }
         ensures marks { let opening = R.opening room.now in
-            OnOk result (AreMarksOf opening.scenario.siblings (fold_of opening (R.history room.now)) self.new.queued) }
+            OnOk result (AreMarksOf opening.scenario.siblings
+            (fold_of opening (R.history room.now)) self.new.queued) }
         ensures kept { let opening = R.opening room.now in
-            OnOk result ((spans : List Span) (span : Span) → span.room ≡ fold_of opening (R.history room.now) →
-            span.room.clock ≡ from → from + span.time ≡ to → 0 < span.time → total_time spans ≡ from →
+            OnOk result ((spans : List Span) (span : Span) →
+            span.room ≡ fold_of opening (R.history room.now) →
+            span.room.clock ≡ from → from + span.time ≡ to → 0 < span.time →
+            total_time spans ≡ from →
             AreKept opening.scenario.siblings spans self.old.segments →
             AreKept opening.scenario.siblings (spans ++ span ∷ []) self.new.segments) }
     {
@@ -109,10 +115,12 @@ impl Recorder {
     fn advance<R: Room>(&mut self, room: &R, time: u64) -> Result<(), OutOfMemory>
         requires playable { IsPlayable (R.opening room.now).scenario }
         requires events { AreEvents (R.opening room.now) (R.history room.now) }
-        requires record { IsRecordOf (R.opening room.now) (R.history room.now) self.old.segments self.old.queued }
+        requires record { IsRecordOf (R.opening room.now)
+            (R.history room.now) self.old.segments self.old.queued }
         requires time { 0 < time }
         ensures { OnOk result ((entry : Entry) → entry.event ≡ Advance time →
-            IsRecordOf (R.opening room.now) (R.history room.now ++ entry ∷ []) self.new.segments self.new.queued) }
+            IsRecordOf (R.opening room.now)
+            (R.history room.now ++ entry ∷ []) self.new.segments self.new.queued) }
     {
         let from = room.clock();
         let to = from.saturating_add(time);
@@ -140,9 +148,11 @@ impl Recorder {
         requires playable { IsPlayable (R.opening room.now).scenario }
         requires events { AreEvents (R.opening room.now) (R.history room.now) }
         requires event { IsEvent (R.opening room.now).scenario.siblings event }
-        requires record { IsRecordOf (R.opening room.now) (R.history room.now) self.old.segments self.old.queued }
+        requires record { IsRecordOf (R.opening room.now)
+            (R.history room.now) self.old.segments self.old.queued }
         ensures { OnOk result ((entry : Entry) → entry.event ≡ event →
-            IsRecordOf (R.opening room.now) (R.history room.now ++ entry ∷ []) self.new.segments self.new.queued) }
+            IsRecordOf (R.opening room.now)
+            (R.history room.now ++ entry ∷ []) self.new.segments self.new.queued) }
     {
         match advance_of(event) {
             Some(time) => self.advance(room, time),
@@ -155,7 +165,8 @@ impl Recorder {
         requires { HasSegmentsOf (R.opening room.now) (R.history room.now) self.segments }
         ensures segments { result ≡ segments_of (R.opening room.now) (R.history room.now) }
         ensures gapless { (cpu : ℕ) → cpu < (R.opening room.now).scenario.siblings →
-            IsGapless 0 (segments_on cpu result) (fold_of (R.opening room.now) (R.history room.now)).clock }
+            IsGapless 0 (segments_on cpu result)
+            (fold_of (R.opening room.now) (R.history room.now)).clock }
     {
         let Recorder {
             segments,

@@ -17,14 +17,17 @@ fn play<R: Room>(room: &mut R, steps: &[Step], recorder: &mut Recorder) -> Resul
     requires playable { IsPlayable (R.opening room.old).scenario }
     requires empty { R.history room.old ≡ [] }
     requires spare { length steps.now ≤ R.spare room.old }
-    requires events { All (λ step. IsEvent (R.opening room.old).scenario.siblings step.event) steps.now }
-    requires record { IsRecordOf (R.opening room.old) (R.history room.old) recorder.old.segments recorder.old.queued }
+    requires events { All (λ step.
+        IsEvent (R.opening room.old).scenario.siblings step.event) steps.now }
+    requires record { IsRecordOf (R.opening room.old)
+        (R.history room.old) recorder.old.segments recorder.old.queued }
 
     ensures history { OnOk result (R.history room.new ≡ history_of (R.opening room.old) steps.now) }
     ensures spare { OnOk result (R.spare room.new + length steps.now ≡ R.spare room.old) }
     ensures opening { R.opening room.new ≡ R.opening room.old }
     ensures record { OnOk result
-        (IsRecordOf (R.opening room.new) (R.history room.new) recorder.new.segments recorder.new.queued) }
+        (IsRecordOf (R.opening room.new)
+        (R.history room.new) recorder.new.segments recorder.new.queued) }
 {
     for step in steps {
         recorder.before(room, step.event)?;
@@ -42,18 +45,23 @@ pub fn recorded_run<R: Room>(
     steps: &[Step],
 ) -> Result<RunSegments, OutOfMemory>
     requires empty { R.history room.old ≡ [] }
-    requires spare { length steps.now + (R.opening room.old).scenario.siblings * (R.opening room.old).scenario.siblings
+    requires spare { length steps.now + (R.opening room.old).scenario.siblings
+        * (R.opening room.old).scenario.siblings
         ≤ R.spare room.old }
-    requires events { All (λ step. IsEvent (R.opening room.old).scenario.siblings step.event) steps.now }
+    requires events { All (λ step.
+        IsEvent (R.opening room.old).scenario.siblings step.event) steps.now }
 
     ensures history { IfOk result (λ _.
-        IsDrained (R.opening room.old) (history_of (R.opening room.old) steps.now) (R.history room.new)) }
+        IsDrained (R.opening room.old) (history_of (R.opening room.old) steps.now)
+        (R.history room.new)) }
     ensures opening { R.opening room.new ≡ R.opening room.old }
-    ensures segments { IfOk result (λ run. run ≡ segments_of (R.opening room.new) (R.history room.new)) }
+    ensures segments { IfOk result
+        (λ run. run ≡ segments_of (R.opening room.new) (R.history room.new)) }
 
     // Those of a sibling follow one another without a gap, from 0 to what the clock shows at the end.
     ensures gapless { IfOk result (λ run. (cpu : ℕ) → cpu < (R.opening room.new).scenario.siblings →
-        IsGapless 0 (segments_on cpu run) (fold_of (R.opening room.new) (R.history room.new)).clock) }
+        IsGapless 0 (segments_on cpu run)
+        (fold_of (R.opening room.new) (R.history room.new)).clock) }
 {
     let mut recorder = Recorder::none(alloc, room.siblings())?;
     play(room, steps, &mut recorder)?;

@@ -24,9 +24,11 @@ fn play<R: Room>(room: &mut R, steps: &[Step], summary: &mut RunSummary)
     requires playable { IsPlayable (R.opening room.old).scenario }
     requires empty { R.history room.old ≡ [] }
     requires spare { length steps.now ≤ R.spare room.old }
-    requires events { All (λ step. IsEvent (R.opening room.old).scenario.siblings step.event) steps.now }
+    requires events { All (λ step.
+        IsEvent (R.opening room.old).scenario.siblings step.event) steps.now }
     requires parts { ArePartsOf (R.opening room.old) (R.history room.old) summary.old }
-    requires rows { sum_by (λ step. most_rows (R.opening room.old).scenario.siblings step.event) steps.now
+    requires rows { sum_by (λ step.
+        most_rows (R.opening room.old).scenario.siblings step.event) steps.now
         ≤ spare_rows summary.old }
     requires few { length steps.now ≤ summary.old.tasks.entries }
     requires fits { summary.old.tasks.entries < 2 ^ 26 }
@@ -66,30 +68,41 @@ pub fn summarized_run<R: Room>(
     steps: &[Step],
 ) -> Result<RunSummary, OutOfMemory>
     requires empty { R.history room.old ≡ [] }
-    requires spare { length steps.now + (R.opening room.old).scenario.siblings * (R.opening room.old).scenario.siblings
+    requires spare { length steps.now + (R.opening room.old).scenario.siblings
+        * (R.opening room.old).scenario.siblings
         ≤ R.spare room.old }
     requires few { length steps.now < 2 ^ 25 }
-    requires events { All (λ step. IsEvent (R.opening room.old).scenario.siblings step.event) steps.now }
+    requires events { All (λ step.
+        IsEvent (R.opening room.old).scenario.siblings step.event) steps.now }
 
     ensures history { IfOk result (λ _.
-        IsDrained (R.opening room.old) (history_of (R.opening room.old) steps.now) (R.history room.new)) }
+        IsDrained (R.opening room.old) (history_of (R.opening room.old) steps.now)
+        (R.history room.new)) }
     ensures opening { R.opening room.new ≡ R.opening room.old }
     ensures unmade { OnErr result (room.new ≡ room.old) }
-    ensures summary { IfOk result (λ summary. IsSummaryOf (R.opening room.new) (R.history room.new) summary) }
+    ensures summary { IfOk result
+        (λ summary. IsSummaryOf (R.opening room.new) (R.history room.new) summary) }
 
     // What a sibling ran, idled, was forced idle and was offline adds up to all time.
-    ensures adds_up { IfOk result (λ summary. All (λ sibling. did sibling ≡ summary.times.total) summary.times.siblings) }
+    ensures adds_up { IfOk result
+        (λ summary. All (λ sibling. did sibling ≡ summary.times.total) summary.times.siblings) }
 
     // All time is what the clock shows at the end. What a task of the scenario ran, waited and slept that lives then adds
     // up to it.
-    ensures clock { IfOk result (λ summary. summary.times.total ≡ (fold_of (R.opening room.new) (R.history room.new)).clock) }
+    ensures clock { IfOk result
+        (λ summary. summary.times.total
+        ≡ (fold_of (R.opening room.new) (R.history room.new)).clock) }
     ensures lived { let state = fold_of (R.opening room.new) (R.history room.new) in
         IfOk result (λ summary. All (λ spec. lives spec.pid state ≡ true → (none : TaskTimes) →
-        lived (slice_index_or summary.tasks.tasks spec.pid none) ≡ state.clock) (R.opening room.new).scenario.tasks) }
+        lived (slice_index_or summary.tasks.tasks spec.pid none) ≡ state.clock)
+        (R.opening room.new).scenario.tasks) }
 
     // The waits of a task from a wake to its run are part of the time that it waited.
-    ensures waited { IfOk result (λ summary. (pid : ℕ) (waits : TaskWaits) (times : TaskTimes) → pid < length summary.waits.rows →
-        (slice_index_or summary.waits.rows pid waits).sum ≤ (slice_index_or summary.tasks.tasks pid times).by_doing.waited) }
+    ensures waited { IfOk result
+        (λ summary. (pid : ℕ) (waits : TaskWaits) (times : TaskTimes) →
+        pid < length summary.waits.rows →
+        (slice_index_or summary.waits.rows pid waits).sum
+        ≤ (slice_index_or summary.tasks.tasks pid times).by_doing.waited) }
 
     // What all cookies are charged adds up to what all tasks are. So no charge is lost, and none is counted twice.
     ensures charged { IfOk result (λ summary.
@@ -106,7 +119,8 @@ pub fn summarized_run<R: Room>(
         All (λ row. row.time ≤ summary.times.mixed.all) summary.group_pairs.rows) }
 
     // The counts of the replies add up to the number of the entries that are refused.
-    ensures refused { IfOk result (λ summary. all_refused summary.replies ≡ count_of is_refused (R.history room.new)) }
+    ensures refused { IfOk result
+        (λ summary. all_refused summary.replies ≡ count_of is_refused (R.history room.new)) }
 {
     let mut summary = RunSummary::open(alloc, room.siblings(), steps)?;
     play(room, steps, &mut summary);

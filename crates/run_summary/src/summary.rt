@@ -58,12 +58,15 @@ impl RunSummary {
     /// steps, and the final drain, can add.
     pub(crate) fn open(alloc: Global, siblings: u8, steps: &[Step]) -> Result<Self, OutOfMemory>
         requires few { length steps.now < 2 ^ 25 }
-        ensures parts { IfOk result (λ summary. (opening : Opening) → opening.scenario.siblings ≡ siblings →
+        ensures parts { IfOk result
+            (λ summary. (opening : Opening) → opening.scenario.siblings ≡ siblings →
             ArePartsOf opening [] summary) }
         ensures spare { IfOk result (λ summary.
             sum_by (λ step. most_rows siblings step.event) steps.now ≤ spare_rows summary) }
-        ensures entries { IfOk result (λ summary. summary.tasks.entries ≡ length steps.now + siblings * siblings) }
-        ensures waits { IfOk result (λ summary. (opening : Opening) → AreWaitsSoFar opening [] summary.waits) }
+        ensures entries { IfOk result
+            (λ summary. summary.tasks.entries ≡ length steps.now + siblings * siblings) }
+        ensures waits { IfOk result
+            (λ summary. (opening : Opening) → AreWaitsSoFar opening [] summary.waits) }
         ensures each { IfOk result (λ summary. summary.waits.entries ≡ summary.tasks.entries) }
     {
         let most = usize::from(siblings);
@@ -83,7 +86,8 @@ impl RunSummary {
         requires events { AreEvents (R.opening room.now) (R.history room.now) }
         requires event { IsEvent (R.opening room.now).scenario.siblings event }
         requires parts { ArePartsOf (R.opening room.now) (R.history room.now) self.old }
-        requires spare { most_rows (R.opening room.now).scenario.siblings event ≤ spare_rows self.old }
+        requires spare { most_rows (R.opening room.now).scenario.siblings event
+            ≤ spare_rows self.old }
         requires few { length (R.history room.now) ≤ self.old.tasks.entries }
         requires fits { self.old.tasks.entries < 2 ^ 26 }
         ensures parts { (entry : Entry) → entry.event ≡ event →
@@ -103,7 +107,8 @@ impl RunSummary {
     pub(crate) fn after<R: Room>(&mut self, room: &R, entry: Entry)
         requires playable { IsPlayable (R.opening room.now).scenario }
         requires events { AreEvents (R.opening room.now) (R.history room.now) }
-        requires waits { AreWaitsBefore (R.opening room.now) (R.history room.now) entry self.old.waits }
+        requires waits { AreWaitsBefore (R.opening room.now)
+            (R.history room.now) entry self.old.waits }
         requires few { length (R.history room.now) ≤ self.old.waits.entries }
         requires fits { self.old.waits.entries < 2 ^ 26 }
         ensures waits { AreWaitsSoFar (R.opening room.now) (R.history room.now) self.new.waits }
@@ -118,7 +123,8 @@ impl RunSummary {
         requires playable { IsPlayable (R.opening room.now).scenario }
         requires parts { ArePartsOf (R.opening room.now) (R.history room.now) self.old }
         requires events { AreEvents (R.opening room.now) (R.history room.now) }
-        requires waits { AreWaitsBeforeEnd (R.opening room.now) (R.history room.now) self.old.waits }
+        requires waits { AreWaitsBeforeEnd (R.opening room.now)
+            (R.history room.now) self.old.waits }
         requires each { self.old.waits.entries ≡ self.old.tasks.entries }
         requires few { length (R.history room.now) ≤ self.old.tasks.entries }
         requires fits { self.old.tasks.entries < 2 ^ 26 }
@@ -127,14 +133,18 @@ impl RunSummary {
         // What a task of the scenario ran, waited and slept that lives at the end adds up to what the clock shows.
         ensures clock { let state = fold_of (R.opening room.now) (R.history room.now) in
             All (λ spec. lives spec.pid state ≡ true → (none : TaskTimes) →
-            lived (slice_index_or self.new.tasks.tasks spec.pid none) ≡ state.clock) (R.opening room.now).scenario.tasks }
+            lived (slice_index_or self.new.tasks.tasks spec.pid none) ≡ state.clock)
+            (R.opening room.now).scenario.tasks }
 
         // The waits of a task from a wake to its run are part of the time that it waited.
-        ensures waited { (pid : ℕ) (waits : TaskWaits) (times : TaskTimes) → pid < length self.new.waits.rows →
-            (slice_index_or self.new.waits.rows pid waits).sum ≤ (slice_index_or self.new.tasks.tasks pid times).by_doing.waited }
+        ensures waited { (pid : ℕ) (waits : TaskWaits) (times : TaskTimes) →
+            pid < length self.new.waits.rows →
+            (slice_index_or self.new.waits.rows pid waits).sum
+            ≤ (slice_index_or self.new.tasks.tasks pid times).by_doing.waited }
 
         // What all cookies are charged adds up to what all tasks are.
-        ensures charged { sum_by (λ times. times.charged) self.new.tasks.cookies ≡ all_charged self.new.tasks.tasks }
+        ensures charged { sum_by (λ times. times.charged) self.new.tasks.cookies
+            ≡ all_charged self.new.tasks.tasks }
     {
         self.tasks.close(room);
         self.waits.close(room);

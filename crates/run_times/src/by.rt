@@ -20,7 +20,8 @@ pub enum By {
 impl By {
     /// The number of what a task is told apart by: its cookie, or the pid that leads its thread group.
     pub(crate) fn key(self, task: TaskView) -> u64
-        ensures { (room : RoomState) (of : Task) → task ≡ task_view room of → result ≡ now.key_of self of }
+        ensures { (room : RoomState) (of : Task) → task ≡ task_view room of →
+            result ≡ now.key_of self of }
     {
         match self {
             By::Cookie => task.cookie,

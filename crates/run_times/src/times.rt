@@ -50,7 +50,8 @@ fn add_to_each<R: Room>(siblings: &mut [SiblingTimes], room: &R, time: u64)
     ensures { let room = fold_of (R.opening room.now) (R.history room.now) in
         (cpu : ℕ) (none : SiblingTimes) → cpu < length siblings.old →
         slice_index_or siblings.new cpu none
-        ≡ with_span (now.doing_of room cpu) (now.is_pending room cpu) time (slice_index_or siblings.old cpu none) }
+        ≡ with_span (now.doing_of room cpu) (now.is_pending room cpu) time
+        (slice_index_or siblings.old cpu none) }
 {
     for cpu in 0..room.siblings() {
         let doing = doing_of(room, cpu);

@@ -38,7 +38,8 @@ pub enum ReadFault {
 
 /// What was read from the line of this number, or the line's fault.
 pub(crate) fn on_line<T: Drop>(read: Result<T, BadKind>, line: u32) -> Result<T, ReadFault>
-    ensures { MatchResult read (λ x. result ≡ Ok x) (λ kind. result ≡ Err (ReadFault.Bad line kind)) }
+    ensures { MatchResult read (λ x. result ≡ Ok x)
+        (λ kind. result ≡ Err (ReadFault.Bad line kind)) }
 {
     match read {
         Ok(x) => Ok(x),

@@ -68,7 +68,8 @@ impl<'a> Lines<'a> {
     #[inline(never)]
     pub fn take_usual_steps(&mut self, siblings: u8, steps: &mut Vec<Step>) -> Result<(), ReadFault>
         requires { IsWithin 1 8 siblings }
-        ensures { MatchResult result (λ _. TakesSteps siblings steps.old.items self.old steps.new.items self.new)
+        ensures { MatchResult result
+            (λ _. TakesSteps siblings steps.old.items self.old steps.new.items self.new)
             (λ fault. fault ≡ ReadFault.OutOfMemory) }
     {
         let mut rest = self.rest;

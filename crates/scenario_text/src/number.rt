@@ -23,7 +23,8 @@ pub(crate) fn is_canonical(word: &[u8]) -> bool
 
 /// The number that the digits spell. `None` where one of the bytes is none, or the number has more than 64 bits.
 fn parse_digits(digits: &[u8]) -> Option<u64>
-    ensures { MatchOption result ((all_ascii_digits digits.now ≡ false) ⊎ (2 ^ 64 ≤ value digits.now))
+    ensures { MatchOption result ((all_ascii_digits digits.now ≡ false)
+        ⊎ (2 ^ 64 ≤ value digits.now))
         (λ n. (all_ascii_digits digits.now ≡ true) × (n ≡ value digits.now)) }
 {
     let mut number: u64 = 0;
@@ -64,7 +65,8 @@ pub(crate) fn first_digits(text: &[u8]) -> (u64, usize)
 
 /// The number from `low` to `high` that the word spells.
 pub fn parse_number(word: &[u8], low: u64, high: u64) -> Result<u64, BadKind>
-    ensures spelled { MatchResult result (λ n. (is_number low high word.now ≡ true) × (n ≡ value word.now))
+    ensures spelled { MatchResult result
+        (λ n. (is_number low high word.now ≡ true) × (n ≡ value word.now))
         (λ kind. (is_number low high word.now ≡ false) × (kind ≡ Number)) }
     ensures within { IfOk result (λ n. IsWithin low high n) }
 {
@@ -100,7 +102,8 @@ pub(crate) fn parse_u8(word: &[u8], low: u8, high: u8) -> Result<u8, BadKind>
 /// its magnitude.
 #[tactic(auto, unfolding(crate::specs::Grammar::is_signed))]
 pub fn parse_signed(word: &[u8], below: u32, above: u32) -> Result<i64, BadKind>
-    ensures spelled { MatchResult result (λ n. (is_signed below above word.now ≡ true) × (n ≡ signed_value word.now))
+    ensures spelled { MatchResult result
+        (λ n. (is_signed below above word.now ≡ true) × (n ≡ signed_value word.now))
         (λ kind. (is_signed below above word.now ≡ false) × (kind ≡ Number)) }
     ensures least { IfOk result (λ number. neg_ℤ (pos below) ≤ℤ number) }
     ensures most { IfOk result (λ number. number ≤ℤ pos above) }
@@ -113,7 +116,8 @@ pub fn parse_signed(word: &[u8], below: u32, above: u32) -> Result<i64, BadKind>
 
 /// 1 for yes and 0 for no.
 pub(crate) fn parse_flag(word: &[u8]) -> Result<bool, BadKind>
-    ensures { MatchResult result (λ is. (is_number 0 1 word.now ≡ true) × (is ≡ flag_value word.now))
+    ensures { MatchResult result
+        (λ is. (is_number 0 1 word.now ≡ true) × (is ≡ flag_value word.now))
         (λ kind. (is_number 0 1 word.now ≡ false) × (kind ≡ Number)) }
 {
     Ok(parse_number(word, 0, 1)? == 1)
@@ -121,7 +125,8 @@ pub(crate) fn parse_flag(word: &[u8]) -> Result<bool, BadKind>
 
 /// One of the siblings of a core, which has this number of them.
 pub(crate) fn parse_cpu(word: &[u8], siblings: u8) -> Result<Cpu, BadKind>
-    ensures { MatchResult result (λ cpu. (is_number 0 (siblings - 1) word.now ≡ true) × (cpu ≡ value word.now))
+    ensures { MatchResult result
+        (λ cpu. (is_number 0 (siblings - 1) word.now ≡ true) × (cpu ≡ value word.now))
         (λ kind. (is_number 0 (siblings - 1) word.now ≡ false) × (kind ≡ Number)) }
 {
     parse_u8(word, 0, siblings.saturating_sub(1))

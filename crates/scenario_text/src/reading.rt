@@ -112,10 +112,12 @@ pub fn read(alloc: Global, bytes: &[u8]) -> Result<Scenario, ReadFault>
 
     // Where there is a first bad line it is told, unless it is out of memory.
     ensures bad { (line : ℕ) (kind : BadKind) → IsFirstBad (lines_in bytes.now) line kind →
-        IsErrAnd result (λ fault. (fault ≡ ReadFault.Bad line kind) ⊎ (fault ≡ ReadFault.OutOfMemory)) }
+        IsErrAnd result (λ fault. (fault ≡ ReadFault.Bad line kind)
+        ⊎ (fault ≡ ReadFault.OutOfMemory)) }
 
     // A text with a bad line is no scenario's.
-    ensures none { (line : ℕ) (kind : BadKind) → IsFirstBad (lines_in bytes.now) line kind → HasNoScenario bytes.now }
+    ensures none { (line : ℕ) (kind : BadKind) → IsFirstBad (lines_in bytes.now) line kind →
+        HasNoScenario bytes.now }
 {
     read_lines(alloc, Lines::of(bytes))
 }

@@ -39,7 +39,8 @@ fn has_child_shape(word: &[u8]) -> bool
 /// A fork.
 fn parse_fork(caller: &[u8], child: &[u8]) -> Result<Event, BadKind>
     ensures { MatchResult result
-        (λ event. (named_pid.is_right caller.now ≡ true) × (event ≡ Fork (value caller.now) (is_word child.now (codes "thread"))))
+        (λ event. (named_pid.is_right caller.now ≡ true)
+        × (event ≡ Fork (value caller.now) (is_word child.now (codes "thread"))))
         (λ kind. (named_pid.is_right caller.now ≡ false) × (kind ≡ Number)) }
 {
     let caller = parse_u32(caller, 1, MOST_NAMED_PID)?;
@@ -50,8 +51,10 @@ fn parse_fork(caller: &[u8], child: &[u8]) -> Result<Event, BadKind>
 /// A change of a task's policy.
 fn parse_setsched(pid: &[u8], said: &[u8]) -> Result<Event, BadKind>
     ensures { MatchResult result
-        (λ event. (named_pid.is_right pid.now && policy.is_right said.now ≡ true) × (event ≡ SetSched (value pid.now) (policy_value said.now)))
-        (λ kind. (named_pid.is_right pid.now && policy.is_right said.now ≡ false) × (kind ≡ Number)) }
+        (λ event. (named_pid.is_right pid.now && policy.is_right said.now ≡ true)
+        × (event ≡ SetSched (value pid.now) (policy_value said.now)))
+        (λ kind. (named_pid.is_right pid.now && policy.is_right said.now ≡ false)
+        × (kind ≡ Number)) }
 {
     let (Ok(pid), Ok(policy)) = (parse_u32(pid, 1, MOST_NAMED_PID), parse_policy(said)) else {
         return Err(BadKind::Number);
@@ -62,7 +65,8 @@ fn parse_setsched(pid: &[u8], said: &[u8]) -> Result<Event, BadKind>
 /// The arguments of `prctl`.
 fn parse_ask(cmd: &[u8], target: &[u8], scope: &[u8], addr: &[u8]) -> Result<Ask, BadKind>
     ensures { MatchResult result
-        (λ ask. (is_ask cmd.now target.now scope.now addr.now ≡ true) × (ask ≡ ask_said cmd.now target.now scope.now addr.now))
+        (λ ask. (is_ask cmd.now target.now scope.now addr.now ≡ true)
+        × (ask ≡ ask_said cmd.now target.now scope.now addr.now))
         (λ kind. (is_ask cmd.now target.now scope.now addr.now ≡ false) × (kind ≡ Number)) }
 {
     let (Ok(cmd), Ok(pid), Ok(scope), Ok(addr)) = (
@@ -90,8 +94,11 @@ fn parse_prctl(
     addr: &[u8],
 ) -> Result<Event, BadKind>
     ensures { MatchResult result
-        (λ event. (named_pid.is_right caller.now && is_ask cmd.now target.now scope.now addr.now ≡ true) × (event ≡ Prctl (value caller.now) (ask_said cmd.now target.now scope.now addr.now)))
-        (λ kind. (named_pid.is_right caller.now && is_ask cmd.now target.now scope.now addr.now ≡ false) × (kind ≡ Number)) }
+        (λ event. (named_pid.is_right caller.now
+        && is_ask cmd.now target.now scope.now addr.now ≡ true)
+        × (event ≡ Prctl (value caller.now) (ask_said cmd.now target.now scope.now addr.now)))
+        (λ kind. (named_pid.is_right caller.now
+        && is_ask cmd.now target.now scope.now addr.now ≡ false) × (kind ≡ Number)) }
 {
     let (Ok(caller), Ok(ask)) = (
         parse_u32(caller, 1, MOST_NAMED_PID),
@@ -144,7 +151,8 @@ fn parse_caller_event(words: &[&[u8]], siblings: u8) -> Result<Event, BadKind>
 
 /// What the sibling does, to itself.
 fn parse_sibling_event(name: &[u8], cpu: Cpu) -> Result<Event, BadKind>
-    ensures { result ≡ joined (read_in sibling_readings (parts (name.now ∷ []))) true (λ make. make cpu) }
+    ensures { result ≡ joined (read_in sibling_readings (parts (name.now ∷ []))) true
+        (λ make. make cpu) }
 {
     if is_word(name, "turn") {
         Ok(Event::Turn(cpu))

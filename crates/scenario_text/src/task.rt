@@ -31,7 +31,8 @@ pub const MOST_ID: u32 = 65535;
 
 /// A nice value.
 fn parse_nice(word: &[u8]) -> Result<i8, BadKind>
-    ensures { MatchResult result (λ n. (is_signed 20 19 word.now ≡ true) × (n ≡ signed_value word.now))
+    ensures { MatchResult result
+        (λ n. (is_signed 20 19 word.now ≡ true) × (n ≡ signed_value word.now))
         (λ kind. (is_signed 20 19 word.now ≡ false) × (kind ≡ Number)) }
 {
     Ok(parse_signed(word, MOST_NICE_BELOW, MOST_NICE_ABOVE)? as i8)
@@ -50,7 +51,8 @@ pub(crate) fn has_policy_shape(word: &[u8]) -> bool
 
 /// `stop`, or the name of a policy, a colon and its number.
 pub(crate) fn parse_policy(word: &[u8]) -> Result<Policy, BadKind>
-    ensures { MatchResult result (λ said. (policy.is_right word.now ≡ true) × (said ≡ policy_value word.now))
+    ensures { MatchResult result
+        (λ said. (policy.is_right word.now ≡ true) × (said ≡ policy_value word.now))
         (λ kind. (policy.is_right word.now ≡ false) × (kind ≡ Number)) }
 {
     if is_word(word, "stop") {
@@ -77,9 +79,11 @@ fn parse_three(
     high: u32,
 ) -> Result<(u32, u32, u32), BadKind>
     ensures { MatchResult result
-        (λ said. (is_number low high first.now && is_number low high second.now && is_number low high third.now ≡ true)
+        (λ said. (is_number low high first.now && is_number low high second.now
+        && is_number low high third.now ≡ true)
         × (said ≡ (value first.now, value second.now, value third.now)))
-        (λ kind. (is_number low high first.now && is_number low high second.now && is_number low high third.now ≡ false) × (kind ≡ Number)) }
+        (λ kind. (is_number low high first.now && is_number low high second.now
+        && is_number low high third.now ≡ false) × (kind ≡ Number)) }
 {
     let (Ok(first), Ok(second), Ok(third)) = (
         parse_u32(first, low, high),
@@ -94,9 +98,11 @@ fn parse_three(
 /// The three flags of a task.
 fn parse_flags(cap: &[u8], mm: &[u8], dumpable: &[u8]) -> Result<(bool, bool, bool), BadKind>
     ensures { MatchResult result
-        (λ said. (flag.is_right cap.now && flag.is_right mm.now && flag.is_right dumpable.now ≡ true)
+        (λ said. (flag.is_right cap.now && flag.is_right mm.now
+        && flag.is_right dumpable.now ≡ true)
         × (said ≡ (flag_value cap.now, flag_value mm.now, flag_value dumpable.now)))
-        (λ kind. (flag.is_right cap.now && flag.is_right mm.now && flag.is_right dumpable.now ≡ false) × (kind ≡ Number)) }
+        (λ kind. (flag.is_right cap.now && flag.is_right mm.now
+        && flag.is_right dumpable.now ≡ false) × (kind ≡ Number)) }
 {
     let (Ok(cap), Ok(mm), Ok(dumpable)) = (parse_flag(cap), parse_flag(mm), parse_flag(dumpable))
     else {

@@ -122,7 +122,8 @@ fn number_before(text: &[u8], end: u8, low: u64, high: u64) -> Option<(u64, &[u8
 /// The `wake` whose arguments the text begins with, and what stands behind its line.
 #[inline(always)]
 fn wake_event(text: &[u8]) -> Option<(Event, &[u8])>
-    ensures { (siblings : ℕ) → IfSome result (λ read. BeginsCall siblings (codes "wake " ++ text.now) read.0 read.1.now) }
+    ensures { (siblings : ℕ) →
+        IfSome result (λ read. BeginsCall siblings (codes "wake " ++ text.now) read.0 read.1.now) }
 {
     let (pid, rest) = number_before(text, b'\n', 1, MOST_NAMED_PID as u64)?;
     Some((Event::Wake(pid as u32), rest))
@@ -131,7 +132,9 @@ fn wake_event(text: &[u8]) -> Option<(Event, &[u8])>
 /// The `advance` whose arguments the text begins with, and what stands behind its line.
 #[inline(always)]
 fn advance_event(text: &[u8]) -> Option<(Event, &[u8])>
-    ensures { (siblings : ℕ) → IfSome result (λ read. BeginsCall siblings (codes "advance " ++ text.now) read.0 read.1.now) }
+    ensures { (siblings : ℕ) →
+        IfSome result
+        (λ read. BeginsCall siblings (codes "advance " ++ text.now) read.0 read.1.now) }
 {
     let (delta, rest) = number_before(text, b'\n', 1, MOST_ADVANCE)?;
     Some((Event::Advance(delta), rest))
@@ -154,7 +157,8 @@ fn last_child(text: &[u8]) -> Option<(bool, &[u8])>
 /// The `fork` whose arguments the text begins with, and what stands behind its line.
 #[inline(always)]
 fn fork_event(text: &[u8]) -> Option<(Event, &[u8])>
-    ensures { (siblings : ℕ) → IfSome result (λ read. BeginsCall siblings (codes "fork " ++ text.now) read.0 read.1.now) }
+    ensures { (siblings : ℕ) →
+        IfSome result (λ read. BeginsCall siblings (codes "fork " ++ text.now) read.0 read.1.now) }
 {
     let (caller, child) = number_before(text, b' ', 1, MOST_NAMED_PID as u64)?;
     let (thread, rest) = last_child(child)?;
@@ -184,7 +188,8 @@ fn last_ask(text: &[u8]) -> Option<(Ask, &[u8])>
 /// The `prctl` whose arguments the text begins with, and what stands behind its line.
 #[inline(always)]
 fn prctl_event(text: &[u8]) -> Option<(Event, &[u8])>
-    ensures { (siblings : ℕ) → IfSome result (λ read. BeginsCall siblings (codes "prctl " ++ text.now) read.0 read.1.now) }
+    ensures { (siblings : ℕ) →
+        IfSome result (λ read. BeginsCall siblings (codes "prctl " ++ text.now) read.0 read.1.now) }
 {
     let (caller, asked) = number_before(text, b' ', 1, MOST_NAMED_PID as u64)?;
     let (ask, rest) = last_ask(asked)?;
@@ -205,7 +210,9 @@ fn last_policy(text: &[u8]) -> Option<(Policy, &[u8])>
 /// The `setsched` whose arguments the text begins with, and what stands behind its line.
 #[inline(always)]
 fn setsched_event(text: &[u8]) -> Option<(Event, &[u8])>
-    ensures { (siblings : ℕ) → IfSome result (λ read. BeginsCall siblings (codes "setsched " ++ text.now) read.0 read.1.now) }
+    ensures { (siblings : ℕ) →
+        IfSome result
+        (λ read. BeginsCall siblings (codes "setsched " ++ text.now) read.0 read.1.now) }
 {
     let (pid, said) = number_before(text, b' ', 1, MOST_NAMED_PID as u64)?;
     let (policy, rest) = last_policy(said)?;
@@ -266,7 +273,9 @@ fn first_actor(text: &[u8], siblings: u8) -> Option<(Actor, &[u8])>
 #[inline(always)]
 pub(crate) fn usual_step(text: &[u8], siblings: u8) -> Option<(Actor, Event, &[u8])>
     requires { IsWithin 1 8 siblings }
-    ensures { IfSome result (λ read. BeginsStep siblings text.now (record { actor = read.0; event = read.1 }) read.2.now) }
+    ensures { IfSome result
+        (λ read. BeginsStep siblings text.now
+        (record { actor = read.0; event = read.1 }) read.2.now) }
 {
     if text.len() < LONGEST {
         return None;

@@ -25,7 +25,8 @@ pub(crate) fn slots<'a>() -> Slots<'a> {
 fn put<'a>(slots: &mut Slots<'a>, count: usize, word: &'a [u8]) -> Result<(), BadKind>
     requires { count ≤ 15 }
     ensures { MatchResult result
-        (λ _. (take (count + 1) slots.new ≡ take count slots.old ++ word.entry ∷ []) × (length word.now ≢ 0) × (count < 15))
+        (λ _. (take (count + 1) slots.new ≡ take count slots.old ++ word.entry ∷ [])
+        × (length word.now ≢ 0) × (count < 15))
         (λ kind. (kind ≡ Shape) × ((length word.now ≡ 0) ⊎ (count ≡ 15))) }
 {
     if word.is_empty() || count == MOST_WORDS {

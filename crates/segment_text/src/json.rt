@@ -34,8 +34,10 @@ fn put_truth(line: &mut Line, holds: bool)
 
 /// Writes the object of a segment, and a line feed. At an `Err` the sink has failed, and a prefix of it is written.
 fn write_object<K: Sink>(segment: &Segment, sink: &mut K) -> Result<(), Failed>
-    ensures ok { OnOk result (K.written sink.new ≡ appended (K.written sink.old) (object_line segment.now)) }
-    ensures prefix { WritesPrefix (K.written sink.old) (object_line segment.now) (K.written sink.new) }
+    ensures ok { OnOk result (K.written sink.new
+        ≡ appended (K.written sink.old) (object_line segment.now)) }
+    ensures prefix { WritesPrefix (K.written sink.old) (object_line segment.now)
+        (K.written sink.new) }
 
     ensures faultless { OnOk result (K.faults sink.new ≡ K.faults sink.old) }
     ensures failed { OnErr result (Rose (K.faults sink.old) (K.faults sink.new)) }
@@ -69,8 +71,10 @@ fn write_object<K: Sink>(segment: &Segment, sink: &mut K) -> Result<(), Failed>
 /// Writes a run's segments as lines of JSON: an object for each segment, with the columns of the table as its members. At
 /// an `Err` the sink has failed, and a prefix of the lines is written. It takes no memory.
 pub fn segments_json<K: Sink>(run: &RunSegments, sink: &mut K) -> Result<(), Failed>
-    ensures ok { OnOk result (K.written sink.new ≡ appended (K.written sink.old) (segments_json_text run.now)) }
-    ensures prefix { WritesPrefix (K.written sink.old) (segments_json_text run.now) (K.written sink.new) }
+    ensures ok { OnOk result (K.written sink.new
+        ≡ appended (K.written sink.old) (segments_json_text run.now)) }
+    ensures prefix { WritesPrefix (K.written sink.old) (segments_json_text run.now)
+        (K.written sink.new) }
 
     ensures faultless { OnOk result (K.faults sink.new ≡ K.faults sink.old) }
     ensures failed { OnErr result (Rose (K.faults sink.old) (K.faults sink.new)) }

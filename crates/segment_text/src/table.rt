@@ -64,8 +64,10 @@ fn row_of(segment: &Segment) -> Line
 /// separated by tabs. Each line goes to the sink in one piece, and again with the rest if the sink took only a part. At
 /// an `Err` the sink has failed, and a prefix of the table is written. It takes no memory.
 pub fn segments<K: Sink>(run: &RunSegments, sink: &mut K) -> Result<(), Failed>
-    ensures ok { OnOk result (K.written sink.new ≡ appended (K.written sink.old) (segments_text run.now)) }
-    ensures prefix { WritesPrefix (K.written sink.old) (segments_text run.now) (K.written sink.new) }
+    ensures ok { OnOk result (K.written sink.new
+        ≡ appended (K.written sink.old) (segments_text run.now)) }
+    ensures prefix { WritesPrefix (K.written sink.old) (segments_text run.now)
+        (K.written sink.new) }
 
     ensures faultless { OnOk result (K.faults sink.new ≡ K.faults sink.old) }
     ensures failed { OnErr result (Rose (K.faults sink.old) (K.faults sink.new)) }

@@ -34,7 +34,8 @@ pub(crate) fn doing_of<R: Room>(room: &R, task: TaskView) -> TaskDoing
     requires events { AreEvents (R.opening room.now) (R.history room.now) }
     requires shown { let state = fold_of (R.opening room.now) (R.history room.now) in
         Some task ≡ option_map (task_view state) (rooms.task_of state task.pid) }
-    ensures { Some result ≡ living.doing_at (fold_of (R.opening room.now) (R.history room.now)) task.pid }
+    ensures { Some result
+        ≡ living.doing_at (fold_of (R.opening room.now) (R.history room.now)) task.pid }
 {
     if is_running(room, task) {
         TaskDoing::Runs

@@ -46,8 +46,10 @@ fn cookie_line(cookie: u32, times: &CookieTimes) -> Line
 
 /// The line of a task, where it lived for some time or was charged something.
 fn write_task<K: Sink>(pid: u32, times: &TaskTimes, sink: &mut K) -> Result<(), Failed>
-    ensures ok { OnOk result (K.written sink.new ≡ appended (K.written sink.old) (flat_map line (told.line_of_task (pid, times.now)))) }
-    ensures prefix { WritesPrefix (K.written sink.old) (flat_map line (told.line_of_task (pid, times.now))) (K.written sink.new) }
+    ensures ok { OnOk result (K.written sink.new
+        ≡ appended (K.written sink.old) (flat_map line (told.line_of_task (pid, times.now)))) }
+    ensures prefix { WritesPrefix (K.written sink.old)
+        (flat_map line (told.line_of_task (pid, times.now))) (K.written sink.new) }
 
     ensures faultless { OnOk result (K.faults sink.new ≡ K.faults sink.old) }
     ensures failed { OnErr result (Rose (K.faults sink.old) (K.faults sink.new)) }
@@ -62,8 +64,10 @@ fn write_task<K: Sink>(pid: u32, times: &TaskTimes, sink: &mut K) -> Result<(), 
 
 /// The line of a cookie, where some task had it for some time or something was charged to it.
 fn write_cookie<K: Sink>(cookie: u32, times: &CookieTimes, sink: &mut K) -> Result<(), Failed>
-    ensures ok { OnOk result (K.written sink.new ≡ appended (K.written sink.old) (flat_map line (told.line_of_cookie (cookie, times.now)))) }
-    ensures prefix { WritesPrefix (K.written sink.old) (flat_map line (told.line_of_cookie (cookie, times.now))) (K.written sink.new) }
+    ensures ok { OnOk result (K.written sink.new
+        ≡ appended (K.written sink.old) (flat_map line (told.line_of_cookie (cookie, times.now)))) }
+    ensures prefix { WritesPrefix (K.written sink.old)
+        (flat_map line (told.line_of_cookie (cookie, times.now))) (K.written sink.new) }
 
     ensures faultless { OnOk result (K.faults sink.new ≡ K.faults sink.old) }
     ensures failed { OnErr result (Rose (K.faults sink.old) (K.faults sink.new)) }
@@ -79,8 +83,10 @@ fn write_cookie<K: Sink>(cookie: u32, times: &CookieTimes, sink: &mut K) -> Resu
 /// The lines of the tasks. At an `Err` the sink has failed, and a prefix of them is written.
 fn write_tasks<K: Sink>(tasks: &[TaskTimes], sink: &mut K) -> Result<(), Failed>
     requires few { length tasks.now < 2 ^ 32 }
-    ensures ok { OnOk result (K.written sink.new ≡ appended (K.written sink.old) (flat_map line (told.lines_of_tasks tasks.now))) }
-    ensures prefix { WritesPrefix (K.written sink.old) (flat_map line (told.lines_of_tasks tasks.now)) (K.written sink.new) }
+    ensures ok { OnOk result (K.written sink.new
+        ≡ appended (K.written sink.old) (flat_map line (told.lines_of_tasks tasks.now))) }
+    ensures prefix { WritesPrefix (K.written sink.old)
+        (flat_map line (told.lines_of_tasks tasks.now)) (K.written sink.new) }
 
     ensures faultless { OnOk result (K.faults sink.new ≡ K.faults sink.old) }
     ensures failed { OnErr result (Rose (K.faults sink.old) (K.faults sink.new)) }
@@ -95,8 +101,10 @@ fn write_tasks<K: Sink>(tasks: &[TaskTimes], sink: &mut K) -> Result<(), Failed>
 /// The lines of the cookies. At an `Err` the sink has failed, and a prefix of them is written.
 fn write_cookies<K: Sink>(cookies: &[CookieTimes], sink: &mut K) -> Result<(), Failed>
     requires few { length cookies.now < 2 ^ 32 }
-    ensures ok { OnOk result (K.written sink.new ≡ appended (K.written sink.old) (flat_map line (told.lines_of_cookies cookies.now))) }
-    ensures prefix { WritesPrefix (K.written sink.old) (flat_map line (told.lines_of_cookies cookies.now)) (K.written sink.new) }
+    ensures ok { OnOk result (K.written sink.new
+        ≡ appended (K.written sink.old) (flat_map line (told.lines_of_cookies cookies.now))) }
+    ensures prefix { WritesPrefix (K.written sink.old)
+        (flat_map line (told.lines_of_cookies cookies.now)) (K.written sink.new) }
 
     ensures faultless { OnOk result (K.faults sink.new ≡ K.faults sink.old) }
     ensures failed { OnErr result (Rose (K.faults sink.old) (K.faults sink.new)) }
@@ -113,8 +121,10 @@ fn write_cookies<K: Sink>(cookies: &[CookieTimes], sink: &mut K) -> Result<(), F
 /// charged, by rising number. Each line goes to the sink in one piece, and again with the rest where the sink took only a
 /// part. At an `Err` the sink has failed, and a prefix of the text is written. It takes no memory.
 pub(crate) fn task_summary<K: Sink>(times: &RunTasks, sink: &mut K) -> Result<(), Failed>
-    ensures ok { OnOk result (K.written sink.new ≡ appended (K.written sink.old) (told.task_text times.now)) }
-    ensures prefix { WritesPrefix (K.written sink.old) (told.task_text times.now) (K.written sink.new) }
+    ensures ok { OnOk result (K.written sink.new
+        ≡ appended (K.written sink.old) (told.task_text times.now)) }
+    ensures prefix { WritesPrefix (K.written sink.old) (told.task_text times.now)
+        (K.written sink.new) }
 
     ensures faultless { OnOk result (K.faults sink.new ≡ K.faults sink.old) }
     ensures failed { OnErr result (Rose (K.faults sink.old) (K.faults sink.new)) }

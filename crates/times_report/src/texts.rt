@@ -18,8 +18,10 @@ use run_times::{By, RunTimes, SiblingTimes, SideBySide};
 
 /// The two lines of each sibling. At an `Err` the sink has failed, and a prefix of them is written.
 fn write_siblings<K: Sink>(siblings: &[SiblingTimes], sink: &mut K) -> Result<(), Failed>
-    ensures ok { OnOk result (K.written sink.new ≡ appended (K.written sink.old) (flat_map line (sibling_lines siblings.now))) }
-    ensures prefix { WritesPrefix (K.written sink.old) (flat_map line (sibling_lines siblings.now)) (K.written sink.new) }
+    ensures ok { OnOk result (K.written sink.new
+        ≡ appended (K.written sink.old) (flat_map line (sibling_lines siblings.now))) }
+    ensures prefix { WritesPrefix (K.written sink.old) (flat_map line (sibling_lines siblings.now))
+        (K.written sink.new) }
 
     ensures faultless { OnOk result (K.faults sink.new ≡ K.faults sink.old) }
     ensures failed { OnErr result (Rose (K.faults sink.old) (K.faults sink.new)) }
@@ -37,7 +39,8 @@ fn write_siblings<K: Sink>(siblings: &[SiblingTimes], sink: &mut K) -> Result<()
 fn write_pairs<K: Sink>(by: By, pairs: &[PairTime], sink: &mut K) -> Result<(), Failed>
     ensures ok { OnOk result (K.written sink.new
         ≡ appended (K.written sink.old) (flat_map line (pair_lines by pairs.now))) }
-    ensures prefix { WritesPrefix (K.written sink.old) (flat_map line (pair_lines by pairs.now)) (K.written sink.new) }
+    ensures prefix { WritesPrefix (K.written sink.old) (flat_map line (pair_lines by pairs.now))
+        (K.written sink.new) }
 
     ensures faultless { OnOk result (K.faults sink.new ≡ K.faults sink.old) }
     ensures failed { OnErr result (Rose (K.faults sink.old) (K.faults sink.new)) }
@@ -59,7 +62,8 @@ fn write_side<K: Sink>(
 ) -> Result<(), Failed>
     ensures ok { OnOk result (K.written sink.new
         ≡ appended (K.written sink.old) (flat_map line (side_lines by times pairs.now))) }
-    ensures prefix { WritesPrefix (K.written sink.old) (flat_map line (side_lines by times pairs.now)) (K.written sink.new) }
+    ensures prefix { WritesPrefix (K.written sink.old)
+        (flat_map line (side_lines by times pairs.now)) (K.written sink.new) }
 
     ensures faultless { OnOk result (K.faults sink.new ≡ K.faults sink.old) }
     ensures failed { OnErr result (Rose (K.faults sink.old) (K.faults sink.new)) }
@@ -73,7 +77,8 @@ fn write_side<K: Sink>(
 fn write_end<K: Sink>(times: &RunTimes, replies: &ReplyCounts, sink: &mut K) -> Result<(), Failed>
     ensures ok { OnOk result (K.written sink.new
         ≡ appended (K.written sink.old) (flat_map line (end_lines times.now replies.now))) }
-    ensures prefix { WritesPrefix (K.written sink.old) (flat_map line (end_lines times.now replies.now)) (K.written sink.new) }
+    ensures prefix { WritesPrefix (K.written sink.old)
+        (flat_map line (end_lines times.now replies.now)) (K.written sink.new) }
 
     ensures faultless { OnOk result (K.faults sink.new ≡ K.faults sink.old) }
     ensures failed { OnErr result (Rose (K.faults sink.old) (K.faults sink.new)) }
@@ -91,8 +96,10 @@ fn write_end<K: Sink>(times: &RunTimes, replies: &ReplyCounts, sink: &mut K) -> 
 /// and again with the rest if the sink took only a part. At an `Err` the sink has failed, and a prefix of the text is written.
 /// It takes no memory.
 pub fn summary<K: Sink>(summary: &RunSummary, sink: &mut K) -> Result<(), Failed>
-    ensures ok { OnOk result (K.written sink.new ≡ appended (K.written sink.old) (summary_text summary.now)) }
-    ensures prefix { WritesPrefix (K.written sink.old) (summary_text summary.now) (K.written sink.new) }
+    ensures ok { OnOk result (K.written sink.new
+        ≡ appended (K.written sink.old) (summary_text summary.now)) }
+    ensures prefix { WritesPrefix (K.written sink.old) (summary_text summary.now)
+        (K.written sink.new) }
 
     ensures faultless { OnOk result (K.faults sink.new ≡ K.faults sink.old) }
     ensures failed { OnErr result (Rose (K.faults sink.old) (K.faults sink.new)) }

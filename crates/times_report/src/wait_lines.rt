@@ -38,7 +38,8 @@ fn has_waited(waits: &TaskWaits) -> bool
 fn write_task_waits<K: Sink>(pid: u32, waits: &TaskWaits, sink: &mut K) -> Result<(), Failed>
     ensures ok { OnOk result (K.written sink.new
         ≡ appended (K.written sink.old) (flat_map line (line_of_waits (pid, waits.now)))) }
-    ensures prefix { WritesPrefix (K.written sink.old) (flat_map line (line_of_waits (pid, waits.now)))
+    ensures prefix { WritesPrefix (K.written sink.old)
+        (flat_map line (line_of_waits (pid, waits.now)))
         (K.written sink.new) }
 
     ensures faultless { OnOk result (K.faults sink.new ≡ K.faults sink.old) }
@@ -58,7 +59,8 @@ pub(crate) fn write_waits<K: Sink>(tasks: &[TaskWaits], sink: &mut K) -> Result<
     requires few { length tasks.now < 2 ^ 32 }
     ensures ok { OnOk result (K.written sink.new
         ≡ appended (K.written sink.old) (flat_map line (wait_lines tasks.now))) }
-    ensures prefix { WritesPrefix (K.written sink.old) (flat_map line (wait_lines tasks.now)) (K.written sink.new) }
+    ensures prefix { WritesPrefix (K.written sink.old) (flat_map line (wait_lines tasks.now))
+        (K.written sink.new) }
 
     ensures faultless { OnOk result (K.faults sink.new ≡ K.faults sink.old) }
     ensures failed { OnErr result (Rose (K.faults sink.old) (K.faults sink.new)) }
