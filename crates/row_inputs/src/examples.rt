@@ -128,7 +128,7 @@ pub const FORK_AND_EXIT: Script = script!(
 
 /// The refusals of calls, and who may access whom: 2 and 4 are another user's, 3 and 4 are one process
 /// group, 5 may not be dumped, 6 has the capability, 7 too. The group's call that is refused uses
-/// cookie 1. Where one sibling alone is online, each call is refused.
+/// cookie 1. If only one sibling is online, each call is refused.
 const REFUSALS: Script = Script {
     name: "REFUSALS",
     text: concat!(

@@ -1,9 +1,9 @@
 //! What the crates of tests hand in: texts of scenarios, the worked examples, words, and a source and a sink in memory.
-//! It has no test of its own. It knows no machine, so that who tests a part need not wait for one.
+//! It has no test of its own. It knows no machine, so that whoever tests a part need not wait for one.
 #![tactic(auto)]
 
 /// The script of this name, of this many siblings, of these limits, of these tasks, of these steps, each with its
-/// reply, of the picks of the end, where it makes some, each with its sibling, and of the lines of this
+/// reply, of the picks of the final drain, if it makes any, each with its sibling, and of the lines of this
 /// report. A task is its pid, its policy and its sibling. It leads its own groups, and all are one user's.
 macro_rules! script {
     (

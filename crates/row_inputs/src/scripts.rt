@@ -184,8 +184,8 @@ pub const STALE_PICK: Script = script!(
     ],
 );
 
-/// A fair task that is alone on its sibling, and has run for so long while the other is forced idle, is
-/// asked to leave. Then that one's task leads, whose virtual time has not grown.
+/// A fair task that is alone on its sibling, and has run for long enough while the other is forced
+/// idle, is asked to leave. Then that one's task leads, whose virtual time has not grown.
 pub const FORCED_IDLE_TICK: Script = script!(
     "FORCED_IDLE_TICK",
     2,

@@ -34,7 +34,8 @@ pub fn next_after<'a>(text: &'a str, actor: &str, starts: &[&str]) -> Option<Opt
     Some(lines.next())
 }
 
-/// The number of the first line, from 1, in which a text differs from the one that is wanted. `None` if they are the same.
+/// The number of the first line, from 1, in which a text differs from the one that is wanted. `None` if they are the
+/// same.
 pub fn other_line(text: &[u8], wanted: &[u8]) -> Option<usize> {
     if text == wanted {
         return None;

@@ -16,7 +16,7 @@ pub record FitsPick (pick : Pick) : Type 0 where
   pub core : pick.core < 2 ^ 64
   pub forced : pick.forced < 2 ^ 64
 
--- so have those of a reply
+-- and so have those of a reply
 abbrev pub FitsReply : Reply → Type 0
 FitsReply (Picked pick) = FitsPick pick
 FitsReply (Stole pid from) = (pid < 2 ^ 64) × (from < 2 ^ 64)
@@ -29,7 +29,8 @@ FitsReply (Child pid) = pid < 2 ^ 64
 FitsReply (Value cookie) = cookie < 2 ^ 64
 FitsReply reply = Unit {0}
 
--- what is made in a core of up to 16 siblings: the end makes a sibling schedule, and each other step is one that a scenario can have
+-- what is made in a core of up to 16 siblings: the final drain makes a sibling schedule, and each other step is one
+-- that a scenario can have
 abbrev pub IsMade : Actor → Event → Type 0
 IsMade End (Resched cpu) = cpu < 16
 IsMade End event = ⊥

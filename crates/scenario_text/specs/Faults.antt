@@ -8,15 +8,15 @@ use Rattle.scenario_text.specs.Grammar.{is_word, value, Form, has_shape, is_righ
 
 -- ---- lines, each as its words
 
--- what stands round the separators
+-- what stands before, between and after the separators
 unfoldable pub pieces : ℕ → List ℕ → List (List ℕ)
 pieces separator bytes = slice_split (λ byte. byte == separator) bytes
 
--- the words of a line, which stand round its spaces
+-- the words of a line, which its spaces separate
 unfoldable pub words_in : List ℕ → List Word
 words_in line = pieces 32 line
 
--- the lines of a text; the last is what stands behind the last line feed
+-- the lines of a text; the last is what stands after the last line feed
 unfoldable pub lines_in : List ℕ → List (List Word)
 lines_in text = map words_in (pieces 10 text)
 
@@ -38,8 +38,8 @@ has_named name lines = list_any (is_named name) lines
 
 -- ---- Shape: the line has none of the forms that may stand in its place
 
--- The forms behind these lines: first the three of the head, in their order; then tasks before teach lines, and these before
--- steps, in a core with as many siblings as the second line says.
+-- The forms that may come after these lines: first the three of the head, in their order; then tasks before teach
+-- lines, and these before steps, in a core with as many siblings as the second line says.
 abbrev pub forms_after : List (List Word) → List Form
 forms_after [] = version_form ∷ []
 forms_after (version ∷ []) = siblings_form ∷ []
@@ -80,7 +80,7 @@ is_led tasks line =
 abbrev pub is_unled : List (List Word) → List Word → Bool
 is_unled before line = is_named (codes "task") line && not (is_led (named (codes "task") before) line)
 
--- the line is of this name, and as many lines of the name as may stand before
+-- the line is of this name, and as many lines of the name as there may be stand before it
 abbrev pub is_past : Word → ℕ → List (List Word) → List Word → Bool
 is_past name most before line = is_named name line && nat_le most (length (named name before))
 
@@ -102,7 +102,7 @@ abbrev pub first_held : List (Bool × BadKind) → Option BadKind
 first_held [] = None
 first_held (kind ∷ kinds) = if kind.0 then Some kind.1 else first_held kinds
 
--- What is wrong with a line, between those before it and those behind it. A line is ended where another is behind it.
+-- What is wrong with a line, between those before it and those after it. A line is ended if another comes after it.
 abbrev pub line_kind : List (List Word) → List Word → List (List Word) → Option BadKind
 line_kind before line later =
     first_held (
@@ -116,12 +116,12 @@ line_kind before line later =
     ∷ []
     )
 
--- what is left of a text is nothing: no byte stands behind the last line feed
+-- what is left of a text is nothing: no byte stands after the last line feed
 abbrev pub is_nothing : List (List Word) → Bool
 is_nothing (([] ∷ []) ∷ []) = true
 is_nothing lines = false
 
--- the same of the first line of what is left; where that is nothing, the line `end` has to be before it
+-- the same for the first line of what is left; if that is nothing, the line `end` has to be before it
 abbrev pub kind_of : List (List Word) → List (List Word) → Option BadKind
 kind_of before [] = None
 kind_of before (line ∷ later) = if has_end before && is_nothing (line ∷ later) then None else line_kind before line later

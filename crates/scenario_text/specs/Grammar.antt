@@ -15,11 +15,11 @@ is_word word keyword = bytes_eq word keyword
 abbrev pub begins : Word → Word → Bool
 begins word mark = bytes_eq (take (length mark) word) mark
 
--- what stands behind the mark
+-- what stands after the mark
 abbrev pub behind : Word → Word → Word
 behind mark word = drop (length mark) word
 
--- whether the word begins with a digit, and with 0 only where it is `0`
+-- whether the word begins with a digit, and with 0 only if it is `0`
 abbrev pub is_canonical : Word → Bool
 is_canonical word = is_ascii_digit (slice_index word 0) && ((length word == 1) || not (slice_index word 0 == 48))
 
@@ -58,7 +58,7 @@ number low high = record { has_shape = λ word. true; is_right = is_number low h
 abbrev pub signed : ℕ → ℕ → Field
 signed below above = record { has_shape = λ word. true; is_right = is_signed below above }
 
--- a mark, and behind it what the field takes
+-- a mark, and after it what the field takes
 abbrev pub marked : Word → Field → Field
 marked mark field =
     record {

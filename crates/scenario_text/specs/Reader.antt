@@ -21,7 +21,7 @@ HasNoScenario bytes = (scenario : Scenario) → ¬ (IsTextOf bytes scenario)
 abbrev pub HasOneScenario : List ℕ → Type 0
 HasOneScenario bytes = (scenario other : Scenario) → IsTextOf bytes scenario → IsTextOf bytes other → scenario ≡ other
 
--- the fault tells the first bad line and its first kind, or is out of memory
+-- the fault names the first bad line and its first kind, or says that memory ran out
 abbrev pub Tells : List (List Word) → ReadFault → Type 0
 Tells lines (Bad line kind) = IsFirstBad lines line kind
 Tells lines OutOfMemory = Unit {0}

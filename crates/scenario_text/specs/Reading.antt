@@ -38,7 +38,7 @@ pub record Parts : Type 0 where
 abbrev pub parts : List Word → Parts
 parts words = record { count = length words; at = λ k. slice_index_or words k [] }
 
--- the same of words that are lent
+-- the same for words that are lent
 abbrev pub lent : List (Bor Word) → Parts
 lent words = record { count = length words; at = λ k. (slice_index_or words k (record { ref_ptr = (0, 0); now = [] })).now }
 
@@ -92,7 +92,7 @@ policy_value word =
     then Fifo (value (behind (codes "fifo:") word))
     else (if begins word (codes "rr:") then Rr (value (behind (codes "rr:") word)) else Fair (signed_value (behind (codes "fair:") word)))))
 
--- what the words behind a policy say
+-- what the words after a policy say
 abbrev pub creds_value : Parts → Creds
 creds_value words =
     record {
@@ -159,17 +159,17 @@ caller_readings siblings =
     ∷ (guard_form (codes "unload"), λ words. Unload (value (words.at 1)))
     ∷ []
 
--- what is read, where a number besides is right
+-- what is read, if a number beside it is right
 abbrev pub joined : {A B : Type 0} → Read A → Bool → (A → B) → Read B
 joined (Err kind) right f = Err kind
 joined (Ok x) right f = if right then Ok (f x) else Err Number
 
--- what stands behind `s` and after it
+-- the number after `s`, and the words after that
 abbrev pub sibling_step : ℕ → Word → Parts → Read Step
 sibling_step siblings digits event =
     joined (read_in sibling_readings event) (is_number 0 (siblings - 1) digits) (λ make. record { actor = Sibling (value digits); event = make (value digits) })
 
--- what stands behind `c` and after it
+-- the number after `c`, and the words after that
 abbrev pub caller_step : ℕ → Word → Parts → Read Step
 caller_step siblings digits event =
     joined (read_in (caller_readings siblings) event) (is_number 0 7 digits) (λ event. record { actor = Caller (value digits); event = event })
@@ -215,7 +215,7 @@ line_as readings lines = do
   x ← read_in readings (parts taken.0)
   Ok (x, taken.1)
 
--- none of the first so many lines is bad
+-- none of this many first lines is bad
 abbrev pub AreGood : List (List Word) → ℕ → Type 0
 AreGood lines count = (k : ℕ) → k < count → kind_of (take k lines) (drop k lines) ≡ None
 
@@ -355,7 +355,7 @@ next_of head plan lines = do
   follows ← line_check head.task_limit line plan
   Ok (line, taken.1)
 
--- what a plan keeps, in a core of so many siblings where so many tasks may live at once
+-- what a plan keeps, in a core of this many siblings, in which this many tasks may live at once
 pub record IsPlan (siblings limit : ℕ) (plan : Contents) : Type 0 where
   pub tasks : All (IsTask siblings) plan.tasks
   pub distinct : AreDistinct plan.tasks
@@ -369,42 +369,43 @@ pub record IsPlan (siblings limit : ℕ) (plan : Contents) : Type 0 where
 
 -- ---- lines that are read from the front of a text
 
--- the text begins with the line of a step that may stand in a core of so many siblings, and the rest stands behind the line
+-- the text begins with the line of a step that may stand in a core of this many siblings, and the rest stands after the
+-- line
 pub record BeginsStep (siblings : ℕ) (text : List ℕ) (step : Step) (rest : List ℕ) : Type 0 where
   pub is : IsStep siblings step
   pub spelled : text ≡ line (step_words step) ++ rest
 
--- an actor of step lines, in a core of so many siblings
+-- an actor of step lines, in a core of this many siblings
 abbrev pub MakesSteps : ℕ → Actor → Type 0
 MakesSteps siblings (Sibling i) = i < siblings
 MakesSteps siblings (Caller j) = j < 8
 MakesSteps siblings End = ⊥
 
--- the same of the word of an actor, which a space follows
+-- the same for the word of an actor, which a space follows
 pub record BeginsActor (siblings : ℕ) (text : List ℕ) (actor : Actor) (rest : List ℕ) : Type 0 where
   pub is : MakesSteps siblings actor
   pub spelled : text ≡ actor_word actor ++ 32 ∷ rest
 
--- and of what an actor does
+-- and for what an actor does
 pub record BeginsEvent (siblings : ℕ) (actor : Actor) (text : List ℕ) (event : Event) (rest : List ℕ) : Type 0 where
   pub is : IsStep siblings (record { actor = actor; event = event })
   pub spelled : text ≡ line (event_words event) ++ rest
 
--- and of what each caller may do
+-- and for what each caller may do
 abbrev pub BeginsCall : ℕ → List ℕ → Event → List ℕ → Type 0
 BeginsCall siblings text event rest = (j : ℕ) → j < 8 → BeginsEvent siblings (Caller j) text event rest
 
--- and of the arguments of a call
+-- and for the arguments of a call
 pub record BeginsAsk (text : List ℕ) (ask : Ask) (rest : List ℕ) : Type 0 where
   pub is : IsAsk ask
   pub spelled : text ≡ line (ask_words ask) ++ rest
 
--- and of a policy
+-- and for a policy
 pub record BeginsPolicy (text : List ℕ) (policy : Policy) (rest : List ℕ) : Type 0 where
   pub is : IsPolicy policy
   pub spelled : text ≡ line (policy_word policy ∷ []) ++ rest
 
--- the text begins with a number, which ends at this byte, and the rest stands behind the byte
+-- the text begins with a number, which ends at this byte, and the rest stands after the byte
 pub record BeginsNumber (low high : ℕ) (text : List ℕ) (number end : ℕ) (rest : List ℕ) : Type 0 where
   pub within : IsWithin low high number
   pub spelled : text ≡ decimal number ++ end ∷ rest
@@ -424,11 +425,11 @@ pub record BeginsTarget (text : List ℕ) (target : ℤ) (rest : List ℕ) : Typ
 abbrev pub plan_lines : Contents → List (List Word)
 plan_lines plan = map task_words plan.tasks ++ map teach_words plan.teaches ++ map step_words plan.steps
 
--- what stands behind the last line feed
+-- what stands after the last line feed
 abbrev pub nothing : List (List Word)
 nothing = ([] ∷ []) ∷ []
 
--- the plan of the lines behind a head, after which nothing stands; or the first bad line of all
+-- the plan of the lines after a head, after which nothing stands; or the first bad line of all
 abbrev pub ReadsPlan : Head → List (List Word) → Result Plan ReadFault → Type 0
 ReadsPlan head lines (Ok plan) =
     IsPlan head.siblings head.task_limit (contents plan) × (lines ≡ plan_lines (contents plan) ++ end_words ∷ nothing)

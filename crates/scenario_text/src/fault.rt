@@ -5,7 +5,7 @@ ghost use Rattle.std.specs.Prelude.{◌≡◌, MatchResult, Ok, Err};
 use std::alloc::AllocFailed;
 use thiserror::Error;
 
-/// What is wrong with a line. Of a line on which more than one of these holds, the first is told.
+/// What is wrong with a line. If more than one of these holds of a line, the first is named.
 #[derive(Clone, Copy, Debug, PartialEq, Eq)]
 pub enum BadKind {
     /// It stands after the `end` line.

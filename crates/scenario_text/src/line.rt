@@ -1,5 +1,5 @@
-//! The lines after the head, each in the form that its first word and the count of its words tell. It is
-//! separate from the forms, of which a new one is a variant more here.
+//! The lines after the head, each in the form that follows from its first word and the number of its
+//! words. It is separate from the forms: a new form is one more variant here.
 
 ghost use Rattle.std.specs.Prelude.{◌≡◌, true, codes};
 ghost use Rattle.scenario_text.specs.Grammar.{is_word};
@@ -32,7 +32,7 @@ pub(crate) struct Place {
     pub is_after_step: bool,
 }
 
-/// A task line. After a teach line or a step line none may stand.
+/// A task line. None may stand after a teach line or a step line.
 fn parse_task_line(words: &[&[u8]], siblings: u8, place: Place) -> Result<ScenarioLine, BadKind>
     requires { is_word ((lent words.now).at 0) (codes "task") ≡ true }
     ensures { result ≡ task_line siblings place (lent words.now) }
@@ -43,7 +43,7 @@ fn parse_task_line(words: &[&[u8]], siblings: u8, place: Place) -> Result<Scenar
     parse_task(words, siblings).map(ScenarioLine::Task)
 }
 
-/// A teach line. After a step line it may not stand.
+/// A teach line. It may not stand after a step line.
 fn parse_teach_line(words: &[&[u8]], place: Place) -> Result<ScenarioLine, BadKind>
     requires { is_word ((lent words.now).at 0) (codes "teach") ≡ true }
     ensures { result ≡ teach_line place (lent words.now) }

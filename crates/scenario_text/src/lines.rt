@@ -14,7 +14,7 @@ use crate::words::{Slots, words_of};
 use cs_types::{Actor, Event, Step};
 use std::marker::Model;
 
-/// Pushes the step. It is made here, since then it is not copied before.
+/// Pushes the step. It is made here, since then it is not copied before it is pushed.
 #[inline(always)]
 fn push_step(steps: &mut Vec<Step>, actor: Actor, event: Event) -> Result<(), ReadFault>
     ensures { MatchResult result
@@ -62,8 +62,8 @@ impl<'a> Lines<'a> {
         words_of(line, slots)
     }
 
-    /// Takes the next lines into the steps, as long as each is one of the step lines that most lines are and the steps are
-    /// not too many. No line's end is searched for. It is a function of its own so that what its loop goes over stays in
+    /// Takes the next lines into the steps, as long as each is one of the usual step lines and the steps are not too
+    /// many. No line's end is searched for. It is a function of its own so that what its loop goes over stays in
     /// registers.
     #[inline(never)]
     pub fn take_usual_steps(&mut self, siblings: u8, steps: &mut Vec<Step>) -> Result<(), ReadFault>

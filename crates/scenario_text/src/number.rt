@@ -11,17 +11,17 @@ ghost use Rattle.scenario_text.specs.Reading.{signed_value, flag_value};
 use crate::fault::BadKind;
 use cs_types::Cpu;
 
-/// How many digits of a number are taken at once. No number of so many has more than 64 bits.
+/// How many digits of a number are taken at once. No number of that many has more than 64 bits.
 pub(crate) const MOST_DIGITS: usize = 19;
 
-/// Whether the word begins with a digit, and with 0 only where it is `0`.
+/// Whether the word begins with a digit, and with 0 only if it is `0`.
 pub(crate) fn is_canonical(word: &[u8]) -> bool
     ensures { result ≡ is_canonical word.now }
 {
     matches!(word, [b'0'] | [b'1'..=b'9', ..])
 }
 
-/// The number that the digits spell. `None` where one of the bytes is none, or the number has more than 64 bits.
+/// The number that the digits spell. `None` if one of the bytes is no digit, or the number has more than 64 bits.
 fn parse_digits(digits: &[u8]) -> Option<u64>
     ensures { MatchOption result ((all_ascii_digits digits.now ≡ false)
         ⊎ (2 ^ 64 ≤ value digits.now))
@@ -37,8 +37,8 @@ fn parse_digits(digits: &[u8]) -> Option<u64>
     Some(number)
 }
 
-/// The number that the digits at the front of the text spell, and how many they are. The first is one, and of many the
-/// first 19 are taken.
+/// The number that the digits at the front of the text spell, and how many they are. The first byte is a digit, and at
+/// most 19 digits are taken.
 #[inline(always)]
 pub(crate) fn first_digits(text: &[u8]) -> (u64, usize)
     requires long { 19 ≤ length text.now }
@@ -52,7 +52,7 @@ pub(crate) fn first_digits(text: &[u8]) -> (u64, usize)
     let mut number = text[0] as u64 - b'0' as u64;
     let mut count = 1;
     while count < MOST_DIGITS {
-        // Of a byte that is no digit this is more than 9.
+        // For a byte that is no digit this is more than 9.
         let digit = (text[count] as u64).wrapping_sub(b'0' as u64);
         if digit > 9 {
             break;
@@ -82,7 +82,7 @@ pub fn parse_number(word: &[u8], low: u64, high: u64) -> Result<u64, BadKind>
     Ok(number)
 }
 
-/// The same of a number of 32 bits.
+/// The same for a number of 32 bits.
 pub(crate) fn parse_u32(word: &[u8], low: u32, high: u32) -> Result<u32, BadKind>
     ensures { MatchResult result (λ n. (is_number low high word.now ≡ true) × (n ≡ value word.now))
         (λ kind. (is_number low high word.now ≡ false) × (kind ≡ Number)) }
@@ -90,7 +90,7 @@ pub(crate) fn parse_u32(word: &[u8], low: u32, high: u32) -> Result<u32, BadKind
     Ok(parse_number(word, low as u64, high as u64)? as u32)
 }
 
-/// And of one of 8 bits.
+/// And for one of 8 bits.
 pub(crate) fn parse_u8(word: &[u8], low: u8, high: u8) -> Result<u8, BadKind>
     ensures { MatchResult result (λ n. (is_number low high word.now ≡ true) × (n ≡ value word.now))
         (λ kind. (is_number low high word.now ≡ false) × (kind ≡ Number)) }
@@ -98,7 +98,7 @@ pub(crate) fn parse_u8(word: &[u8], low: u8, high: u8) -> Result<u8, BadKind>
     Ok(parse_number(word, low as u64, high as u64)? as u8)
 }
 
-/// The number from `-below` to `above` that the word spells: where it is negative, `-` and the digits of
+/// The number from `-below` to `above` that the word spells: if it is negative, `-` and the digits of
 /// its magnitude.
 #[tactic(auto, unfolding(crate::specs::Grammar::is_signed))]
 pub fn parse_signed(word: &[u8], below: u32, above: u32) -> Result<i64, BadKind>

@@ -95,7 +95,7 @@ impl Plan {
         Ok(())
     }
 
-    /// Whether one more line of a form of which the plan has so many may follow.
+    /// Whether one more line of a form of which the plan has this many may follow.
     fn check_count(count: usize, most: usize) -> Result<(), BadKind>
         ensures { result ≡ check Full (nat_lt count most) }
     {
@@ -105,7 +105,7 @@ impl Plan {
         Ok(())
     }
 
-    /// Whether the line may follow, where `limit` tasks may live at once.
+    /// Whether the line may follow, if `limit` tasks may live at once.
     #[tactic(auto, unfolding(crate::specs::Reading::line_check))]
     pub fn check(&self, line: &ScenarioLine, limit: u16) -> Result<(), BadKind>
         ensures { result ≡ line_check limit line.now (contents self.now) }

@@ -93,24 +93,24 @@ fn read_lines(alloc: Global, mut lines: Lines<'_>) -> Result<Scenario, ReadFault
 ///
 /// # Errors
 ///
-/// [`ReadFault::Bad`] exactly where the bytes are the text of no valid scenario: with the first line that
-/// is bad, counted from 1, and the first of the kinds of [`BadKind`](crate::BadKind) that hold of it.
-/// [`ReadFault::OutOfMemory`] where there is no memory for its tasks, teach lines and steps.
+/// [`ReadFault::Bad`] exactly if the bytes are the text of no valid scenario: with the first line that is
+/// bad, counted from 1, and the first of the kinds of [`BadKind`](crate::BadKind) that hold of it.
+/// [`ReadFault::OutOfMemory`] if there is no memory for its tasks, teach lines and steps.
 pub fn read(alloc: Global, bytes: &[u8]) -> Result<Scenario, ReadFault>
     // What is read is the scenario of the text.
     ensures found { IfOk result (IsTextOf bytes.now) }
 
-    // The text of a scenario is read as that scenario, unless it is out of memory.
+    // The text of a scenario is read as that scenario, unless memory runs out.
     ensures only { (scenario : Scenario) → IsTextOf bytes.now scenario →
         MatchResult result (λ read. read ≡ scenario) (λ fault. fault ≡ ReadFault.OutOfMemory) }
 
     // A text has one scenario at most.
     ensures one { HasOneScenario bytes.now }
 
-    // A fault tells the first bad line and its first kind.
+    // A fault names the first bad line and its first kind, unless memory ran out.
     ensures told { IfErr result (Tells (lines_in bytes.now)) }
 
-    // Where there is a first bad line it is told, unless it is out of memory.
+    // If there is a first bad line, it is named, unless memory runs out.
     ensures bad { (line : ℕ) (kind : BadKind) → IsFirstBad (lines_in bytes.now) line kind →
         IsErrAnd result (λ fault. (fault ≡ ReadFault.Bad line kind)
         ⊎ (fault ≡ ReadFault.OutOfMemory)) }

@@ -169,7 +169,7 @@ fn parse_sibling_event(name: &[u8], cpu: Cpu) -> Result<Event, BadKind>
     }
 }
 
-/// What the sibling of this number does, to itself, where the event is one word. Whether it is an event is asked first.
+/// What the sibling of this number does, to itself, if the event is one word. Whether it is an event is asked first.
 fn parse_sibling_step(digits: &[u8], name: &[u8], siblings: u8) -> Result<Step, BadKind>
     ensures { result ≡ sibling_step siblings digits.now (parts (name.now ∷ [])) }
 {
@@ -191,7 +191,7 @@ fn parse_caller_step(digits: &[u8], event: &[&[u8]], siblings: u8) -> Result<Ste
     })
 }
 
-/// The words of a step line, in a core with this number of siblings. The letter of the actor tells whose
+/// The words of a step line, in a core with this number of siblings. The letter of the actor says whose
 /// event it is.
 pub(crate) fn parse_step(words: &[&[u8]], siblings: u8) -> Result<Step, BadKind>
     ensures { result ≡ step_line siblings (lent words.now) }

@@ -1,4 +1,4 @@
-//! Tasks, as the words of a task line spell them. What a task may not be for the sake of others is
+//! Tasks, as the words of a task line spell them. What a task may not be because of other tasks is
 //! elsewhere, with the plan.
 
 ghost use Rattle.std.specs.Prelude.{◌≡◌, ◌&&◌, [], ◌∷◌, true, false, codes, MatchResult};
@@ -111,7 +111,7 @@ fn parse_flags(cap: &[u8], mm: &[u8], dumpable: &[u8]) -> Result<(bool, bool, bo
     Ok((cap, mm, dumpable))
 }
 
-/// The words behind a policy: the task's credentials.
+/// The words after a policy: the task's credentials.
 fn parse_creds(words: &[&[u8]]) -> Result<Creds, BadKind>
     ensures { result ≡ read_in ((creds_form, creds_value) ∷ []) (lent words.now) }
 {
@@ -149,7 +149,7 @@ pub(crate) fn parse_task(words: &[&[u8]], siblings: u8) -> Result<TaskSpec, BadK
     if !has_policy_shape(policy) {
         return Err(BadKind::Shape);
     }
-    // Before the numbers in front of them, since the line has its shape only where there are nine of these.
+    // Before the numbers in front of them, since the line has its shape only if there are nine of these.
     let creds = parse_creds(creds)?;
     let (Ok((pid, tgid, pgid)), Ok(cpu), Ok(policy)) = (
         parse_three(pid, tgid, pgid, 1, MOST_PID),

@@ -1,6 +1,6 @@
-//! The step lines that most lines of a text are, read from its bytes with no search for words: those of siblings, and
-//! `wake`, `advance`, `prctl`, `fork`, `setsched`, `offline` and `online`. It is separate from the forms of lines,
-//! which say the same of these and have all others.
+//! The usual step lines, which most lines of a text are, read from its bytes with no search for words: those of
+//! siblings, and `wake`, `advance`, `prctl`, `fork`, `setsched`, `offline` and `online`. It is separate from the
+//! forms of lines, which say the same of these and have all the others.
 
 ghost use Rattle.std.specs.Prelude.{◌≡◌, ℕ, ◌<◌, ◌≤◌, ◌-◌, [], ◌∷◌, ◌++◌, length, take, codes, IfSome, IsTrue};
 ghost use Rattle.std.specs.Int.{w32, to_le_bytes};
@@ -16,8 +16,8 @@ use crate::step::{MOST_ADVANCE, MOST_CALLER, MOST_NAMED_PID, MOST_TARGET_ABOVE};
 use crate::task::parse_policy;
 use cs_types::{Actor, Ask, Cpu, Event, Policy};
 
-/// A text of fewer bytes is read the general way. In one of so many, no word and no number of a line that is read here
-/// reaches past the end, so the compiler leaves out most tests of whether a byte is there.
+/// A text of fewer bytes is read the general way. In one of at least this many, no word and no number of a line that
+/// is read here reaches past the end, so the compiler leaves out most tests of whether a byte is there.
 const LONGEST: usize = 80;
 
 /// The first four bytes as one number, which is compared at once.
@@ -43,7 +43,7 @@ fn are_same(bytes: &[u8], word: &[u8]) -> bool
     true
 }
 
-/// What stands behind this word of four bytes or more, where the text begins with it.
+/// What stands after this word of four bytes or more, if the text begins with it.
 #[inline(always)]
 fn behind<'a>(text: &'a [u8], word: &[u8]) -> Option<&'a [u8]>
     requires { 4 ≤ length word.now }
@@ -56,7 +56,7 @@ fn behind<'a>(text: &'a [u8], word: &[u8]) -> Option<&'a [u8]>
     Some(rest)
 }
 
-/// What the sibling does, to itself, where the text begins with that, and what stands behind its line.
+/// What the sibling does, to itself, if the text begins with that, and what stands after its line.
 #[inline(always)]
 fn sibling_event(text: &[u8], cpu: Cpu) -> Option<(Event, &[u8])>
     ensures { IfSome result (λ read. (siblings : ℕ) → cpu < siblings →
@@ -78,7 +78,7 @@ fn sibling_event(text: &[u8], cpu: Cpu) -> Option<(Event, &[u8])>
     }
 }
 
-/// The number of one digit, up to `most`, that stands before the byte `end`, and what stands behind that byte.
+/// The number of one digit, up to `most`, that stands before the byte `end`, and what stands after that byte.
 #[inline(always)]
 fn digit_before(text: &[u8], end: u8, most: u8) -> Option<(u8, &[u8])>
     requires { most ≤ 9 }
@@ -95,7 +95,8 @@ fn digit_before(text: &[u8], end: u8, most: u8) -> Option<(u8, &[u8])>
     }
 }
 
-/// The number from `low`, which is 0 or 1, to `high` that stands before the byte `end`, and what stands behind that byte.
+/// The number from `low`, which is 0 or 1, to `high` that stands before the byte `end`, and what stands after that
+/// byte.
 #[inline(always)]
 fn number_before(text: &[u8], end: u8, low: u64, high: u64) -> Option<(u64, &[u8])>
     requires { low ≤ 1 }
@@ -119,7 +120,7 @@ fn number_before(text: &[u8], end: u8, low: u64, high: u64) -> Option<(u64, &[u8
     }
 }
 
-/// The `wake` whose arguments the text begins with, and what stands behind its line.
+/// The `wake` whose arguments the text begins with, and what stands after its line.
 #[inline(always)]
 fn wake_event(text: &[u8]) -> Option<(Event, &[u8])>
     ensures { (siblings : ℕ) →
@@ -129,7 +130,7 @@ fn wake_event(text: &[u8]) -> Option<(Event, &[u8])>
     Some((Event::Wake(pid as u32), rest))
 }
 
-/// The `advance` whose arguments the text begins with, and what stands behind its line.
+/// The `advance` whose arguments the text begins with, and what stands after its line.
 #[inline(always)]
 fn advance_event(text: &[u8]) -> Option<(Event, &[u8])>
     ensures { (siblings : ℕ) →
@@ -140,7 +141,7 @@ fn advance_event(text: &[u8]) -> Option<(Event, &[u8])>
     Some((Event::Advance(delta), rest))
 }
 
-/// Whether the child that ends the first line is a thread, and what stands behind the line.
+/// Whether the child that ends the first line is a thread, and what stands after the line.
 #[inline(always)]
 fn last_child(text: &[u8]) -> Option<(bool, &[u8])>
     ensures { IfSome result (λ read. text.now ≡ line (child_word read.0 ∷ []) ++ read.1.now) }
@@ -154,7 +155,7 @@ fn last_child(text: &[u8]) -> Option<(bool, &[u8])>
     }
 }
 
-/// The `fork` whose arguments the text begins with, and what stands behind its line.
+/// The `fork` whose arguments the text begins with, and what stands after its line.
 #[inline(always)]
 fn fork_event(text: &[u8]) -> Option<(Event, &[u8])>
     ensures { (siblings : ℕ) →
@@ -166,7 +167,7 @@ fn fork_event(text: &[u8]) -> Option<(Event, &[u8])>
     Some((Event::Fork { caller, thread }, rest))
 }
 
-/// The arguments of a `prctl` that the first line ends with, and what stands behind the line.
+/// The arguments of a `prctl` that the first line ends with, and what stands after the line.
 #[inline(always)]
 fn last_ask(text: &[u8]) -> Option<(Ask, &[u8])>
     ensures { IfSome result (λ read. BeginsAsk text.now read.0 read.1.now) }
@@ -185,7 +186,7 @@ fn last_ask(text: &[u8]) -> Option<(Ask, &[u8])>
     Some((ask, rest))
 }
 
-/// The `prctl` whose arguments the text begins with, and what stands behind its line.
+/// The `prctl` whose arguments the text begins with, and what stands after its line.
 #[inline(always)]
 fn prctl_event(text: &[u8]) -> Option<(Event, &[u8])>
     ensures { (siblings : ℕ) →
@@ -197,7 +198,7 @@ fn prctl_event(text: &[u8]) -> Option<(Event, &[u8])>
     Some((Event::Prctl { caller, ask }, rest))
 }
 
-/// The policy that ends the first line, and what stands behind the line.
+/// The policy that ends the first line, and what stands after the line.
 #[inline(always)]
 fn last_policy(text: &[u8]) -> Option<(Policy, &[u8])>
     ensures { IfSome result (λ read. BeginsPolicy text.now read.0 read.1.now) }
@@ -207,7 +208,7 @@ fn last_policy(text: &[u8]) -> Option<(Policy, &[u8])>
     Some((policy, rest))
 }
 
-/// The `setsched` whose arguments the text begins with, and what stands behind its line.
+/// The `setsched` whose arguments the text begins with, and what stands after its line.
 #[inline(always)]
 fn setsched_event(text: &[u8]) -> Option<(Event, &[u8])>
     ensures { (siblings : ℕ) →
@@ -220,8 +221,8 @@ fn setsched_event(text: &[u8]) -> Option<(Event, &[u8])>
     Some((Event::SetSched { pid, policy }, rest))
 }
 
-/// What a caller does, in a core with this number of siblings, where the text begins with that, and what stands behind
-/// its line.
+/// What a caller does, in a core with this number of siblings, if the text begins with that, and what stands after its
+/// line.
 #[inline(always)]
 fn caller_event(text: &[u8], siblings: u8) -> Option<(Event, &[u8])>
     requires { IsWithin 1 8 siblings }
@@ -248,8 +249,8 @@ fn caller_event(text: &[u8], siblings: u8) -> Option<(Event, &[u8])>
     }
 }
 
-/// The actor that the text begins with, one of this number of siblings or a caller, and what stands behind the space
-/// after it.
+/// The actor that the text begins with, one of this number of siblings or a caller, and what stands after the space
+/// that follows it.
 #[inline(always)]
 fn first_actor(text: &[u8], siblings: u8) -> Option<(Actor, &[u8])>
     requires { IsWithin 1 8 siblings }
@@ -269,7 +270,7 @@ fn first_actor(text: &[u8], siblings: u8) -> Option<(Actor, &[u8])>
     }
 }
 
-/// Who makes the step of the first line, where it is one of these, and what it does, and what stands behind the line.
+/// Who makes the step of the first line, if it is one of these, and what they do, and what stands after the line.
 #[inline(always)]
 pub(crate) fn usual_step(text: &[u8], siblings: u8) -> Option<(Actor, Event, &[u8])>
     requires { IsWithin 1 8 siblings }

@@ -1,4 +1,4 @@
-//! The words of a line, cut before any of them is looked at, since a line's form is told by them all.
+//! The words of a line, cut before any of them is looked at, since it takes all of them to know the line's form.
 
 ghost use Rattle.std.specs.Prelude.{◌≡◌, ◌≢◌, ◌⊎◌, ◌+◌, ◌<◌, ◌≤◌, [], ◌∷◌, ◌++◌, length, take, MatchResult};
 ghost use Rattle.scenario_text.specs.declared.fault.BadKind.TheVariants.{Shape};
@@ -20,7 +20,7 @@ pub(crate) fn slots<'a>() -> Slots<'a> {
     [&[]; MOST_WORDS]
 }
 
-/// Puts one more word behind the first `count`. A line of more words than any form has is refused, and so is
+/// Puts one more word after the first `count`. A line of more words than any form has is refused, and so is
 /// an empty word.
 fn put<'a>(slots: &mut Slots<'a>, count: usize, word: &'a [u8]) -> Result<(), BadKind>
     requires { count ≤ 15 }

@@ -1,6 +1,6 @@
 //! What `coresched_view` shows of runs whose numbers were worked out by hand: a reschedule that is not taken for a
-//! while, idling forced by a task with a cookie and by one without, a task that waits behind its equal, one that ends under
-//! another cookie, and thread groups side by side. And its words and faults.
+//! while, idling forced by a task with a cookie and by one without, a task that waits behind its equal, one that ends
+//! under another cookie, and thread groups side by side. And its words and faults.
 
 use core_state::CoreState;
 use cs_outside::PairGuard;
@@ -33,8 +33,8 @@ fn expect_view<R: AllocGlobal + Abort>(
     assert!(rt; sink.bytes() == output.as_bytes());
 }
 
-/// Task 2 comes to sibling 1, and is higher than task 1. So sibling 0 is to idle under the cookie 2, and takes that 50 us
-/// later. Then 1 us goes by.
+/// Task 2 comes to sibling 1, and is higher than task 1. So sibling 0 is to idle under the cookie 2, and takes that 50
+/// us later. Then 1 us goes by.
 const WINDOW: &str = "coresched 1
 siblings 2
 limits 8 8 65536
@@ -94,8 +94,8 @@ step c0 advance 50
 end
 ";
 
-/// Task 2 runs for 1 us under the cookie 2 while sibling 0 idles, is charged for that, makes itself the cookie 3 and ends.
-/// So its charge counts for 3, which no task had for any time. Then 500 ns go by before sibling 0 takes task 1.
+/// Task 2 runs for 1 us under the cookie 2 while sibling 0 idles, is charged for that, makes itself the cookie 3 and
+/// ends. So its charge counts for 3, which no task had for any time. Then 500 ns go by before sibling 0 takes task 1.
 const ENDS_UNDER_ANOTHER: &str = "coresched 1
 siblings 2
 limits 8 8 65536
@@ -116,8 +116,9 @@ step c0 advance 500
 end
 ";
 
-/// Nobody has a cookie. Task 2, a thread of task 1's group, runs beside it for 120 us. Task 3 is of another group and is woken
-/// on sibling 1, which takes it 20 us later; 50 us after that task 1 forks a thread, which waits 30 us until task 1 sleeps.
+/// Nobody has a cookie. Task 2, a thread of task 1's group, runs beside it for 120 us. Task 3 is of another group and
+/// is woken on sibling 1, which takes it 20 us later; 50 us after that task 1 forks a thread, which waits 30 us until
+/// task 1 sleeps.
 const GROUPS: &str = "coresched 1
 siblings 2
 limits 8 8 65536
