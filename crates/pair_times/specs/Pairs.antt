@@ -1,4 +1,4 @@
--- Pairs: for how long tasks with which two cookies, or of which two thread groups, ran side by side. Tasks without a cookie
+-- Pairs: for each two cookies, or each two thread groups, how long their tasks ran side by side. Tasks without a cookie
 -- have the cookie 0.
 use Rattle.std.specs.Prelude.{◌≡◌, ℕ, ◌-◌, ◌*◌, ◌/◌, ◌<◌, ◌==◌, ◌&&◌, ◌||◌, nat_lt, Bool, true, false, if◌then◌else◌, List, All, AllPairs, sum_by}
 use Rattle.std.specs.List.{list_any}
@@ -25,7 +25,8 @@ run_both by a b room = runs_key by room a && runs_key by room b
 abbrev pub goes_before : PairTime → ℕ → ℕ → Bool
 goes_before row low high = nat_lt row.low low || (row.low == low && nat_lt row.high high)
 
--- Each row is of two that differ, the lower one first, and of some time. They stand in order, so no two are of one pair.
+-- Each row is of two that differ, the lower one first, and of some time. They stand in order, so no two are of one
+-- pair.
 pub record AreRows (rows : List PairTime) : Type 0 where
   pub sound : All (λ row. (row.low < row.high) × (0 < row.time)) rows
   pub rising : AllPairs (λ row next. goes_before row next.low next.high ≡ true) rows
@@ -36,8 +37,8 @@ time_of rows a b = sum_by (λ row. if row.low == a && row.high == b then row.tim
 
 -- ---- the pairs of a run
 
--- The rows are those of these spans: the time of each pair is that in which its tasks ran side by side, and it has a row if
--- that is above 0. There are no other rows.
+-- The rows are those of these spans: the time of each pair is that in which its tasks ran side by side, and it has a
+-- row if that is above 0. There are no other rows.
 pub record ArePairsIn (by : By) (spans : List Span) (rows : List PairTime) : Type 0 where
   pub order : AreRows rows
   pub times : (a : ℕ) (b : ℕ) → a < b → time_of rows a b ≡ time_in (run_both by a b) spans
@@ -54,10 +55,11 @@ ArePairsOf opening history pairs = ArePairsIn pairs.by (spans_of opening history
 
 -- ---- memory
 
--- how many pairs so many siblings make
+-- how many pairs this many siblings make
 abbrev pub pairs_among : ℕ → ℕ
 pairs_among siblings = siblings * (siblings - 1) / 2
 
--- how many rows an event can make at most in a core with this number of siblings: one for each pair of them at an advance
+-- how many rows an event can make at most in a core with this number of siblings: one for each pair of them at an
+-- advance
 abbrev pub most_rows : ℕ → Event → ℕ
 most_rows siblings event = option_map_or (λ _. pairs_among siblings) (advance_of event) 0

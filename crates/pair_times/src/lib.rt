@@ -1,5 +1,5 @@
-//! For how long tasks that are told apart ran side by side in a run, pair by pair: tasks with which two cookies, or of which
-//! two thread groups. It is over the contract of a machine alone.
+//! For how long tasks that are told apart ran side by side in a run, pair by pair: for each two cookies, or each two
+//! thread groups. It stands on the contract of a machine alone.
 #![tactic(auto)]
 
 mod keys;

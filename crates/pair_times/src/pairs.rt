@@ -14,8 +14,8 @@ use run_times::{By, advance_of};
 use std::alloc::{AllocError, Global};
 use std::marker::Model;
 
-/// For how long tasks with which two cookies, or of which two thread groups, ran side by side in a run. After it is opened it
-/// takes no memory.
+/// For each two cookies, or each two thread groups, how long their tasks ran side by side in a run. After it is opened
+/// it takes no memory.
 #[derive(Drop)]
 pub struct PairTimes {
     by: By,
@@ -35,7 +35,7 @@ impl Model for PairTimes {
     } };
 }
 
-/// How many pairs so many siblings make.
+/// How many pairs this many siblings make.
 fn pairs_among(siblings: u8) -> usize
     ensures { result ≡ pairs_among siblings }
 {

@@ -11,13 +11,13 @@ use Rattle.run_summary.specs.declared.replies.ReplyCounts.{ReplyCounts}
 use Rattle.run_summary.specs.Replies.{replies_of}
 
 pub record Summary : Type 0 where
-  -- for how long what was so
+  -- what held, and for how long
   pub times : Times
-  -- for how long tasks with which two cookies ran side by side
+  -- for each two cookies, how long their tasks ran side by side
   pub cookie_pairs : Pairs
-  -- for how long tasks of which two thread groups did
+  -- for each two thread groups, how long theirs did
   pub group_pairs : Pairs
-  -- for how long each task and the tasks of each cookie did what, and what they were charged
+  -- what each task and the tasks of each cookie did and for how long, and what they were charged
   pub tasks : TaskSums
   -- how often and for how long each task waited from a wake to its run
   pub waits : Waits
@@ -35,13 +35,15 @@ pub record ArePairs (opening : Opening) (history : History) (summary : Summary) 
   pub cookie_pairs : ArePairsOf opening history summary.cookie_pairs
   pub group_pairs : ArePairsOf opening history summary.group_pairs
 
--- The parts that are kept before each step are those of the history so far. The waits are kept after it, and stand apart.
+-- The parts that are kept before each step are those of the history so far. The waits are kept after it, and stand
+-- apart.
 pub record ArePartsOf (opening : Opening) (history : History) (summary : Summary) : Type 0 where
   pub times : summary.times ≡ times_of opening history
   pub pairs : ArePairs opening history summary
   pub tasks : summary.tasks ≡ sums_so_far summary.tasks.entries opening history
 
--- This is the summary of a history. It has a row for each task and each cookie that there can be with so many entries.
+-- This is the summary of a history. It has a row for each task and each cookie that there can be with this many
+-- entries.
 pub record IsSummaryOf (opening : Opening) (history : History) (summary : Summary) : Type 0 where
   pub times : summary.times ≡ times_of opening history
   pub pairs : ArePairs opening history summary

@@ -1,5 +1,5 @@
-//! What is told of a run: all parts of the summary, kept while its steps are made. It is over the contract of a machine
-//! alone.
+//! What is told of a run: all parts of the summary, kept while its steps are made. It stands on the contract of a
+//! machine alone.
 #![tactic(auto)]
 
 mod replies;

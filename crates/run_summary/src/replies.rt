@@ -1,11 +1,11 @@
-//! How many steps were answered how.
+//! How many entries were refused, and how.
 
 ghost use Rattle.std.specs.Prelude.{◌≡◌, ◌^◌, ◌<◌, [], length};
 ghost use Rattle.run_summary.specs.Replies.{with_reply, AreBelow, replies_of};
 
 use cs_types::{Reply, Room};
 
-/// How many entries have which refusal for their reply. Together they are all entries that are refused.
+/// How many entries have each refusal as their reply. Together they are all entries that are refused.
 #[derive(Clone, Copy)]
 pub struct ReplyCounts {
     /// `NoTask`: no living task has the pid.

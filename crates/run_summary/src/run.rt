@@ -87,8 +87,8 @@ pub fn summarized_run<R: Room>(
     ensures adds_up { IfOk result
         (λ summary. All (λ sibling. did sibling ≡ summary.times.total) summary.times.siblings) }
 
-    // All time is what the clock shows at the end. What a task of the scenario ran, waited and slept that lives then adds
-    // up to it.
+    // All time is what the clock shows at the end. What a task of the scenario that lives then ran, waited and slept
+    // adds up to it.
     ensures clock { IfOk result
         (λ summary. summary.times.total
         ≡ (fold_of (R.opening room.new) (R.history room.new)).clock) }
@@ -112,7 +112,8 @@ pub fn summarized_run<R: Room>(
     // was at any advance.
     ensures exposed { IfOk result (λ summary. summary.times.exposed.all ≤ summary.times.pending) }
 
-    // Those of one pair of cookies did for no longer than those of any, and those of one pair of thread groups too.
+    // Those of one pair of cookies did for no longer than tasks with distinct cookies did at all, and those of one pair
+    // of thread groups likewise.
     ensures cookie_pairs { IfOk result (λ summary.
         All (λ row. row.time ≤ summary.times.exposed.all) summary.cookie_pairs.rows) }
     ensures group_pairs { IfOk result (λ summary.

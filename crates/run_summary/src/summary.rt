@@ -1,4 +1,4 @@
-//! The parts of the summary, beside one another. One more of them is a field, a line in `open`, and in `before` or in `after`,
+//! The parts of the summary, side by side. One more part is a field, a line in `open`, and in `before` or in `after`,
 //! and a clause of `ArePartsOf` or one of its own.
 
 ghost use Rattle.std.specs.Prelude.{◌≡◌, ◌+◌, ◌*◌, ◌^◌, ◌<◌, ◌≤◌, [], ◌∷◌, ◌++◌, true, ℕ, length, sum_by, All, IfOk, slice_index_or};
@@ -130,7 +130,7 @@ impl RunSummary {
         requires fits { self.old.tasks.entries < 2 ^ 26 }
         ensures summary { IsSummaryOf (R.opening room.now) (R.history room.now) self.new }
 
-        // What a task of the scenario ran, waited and slept that lives at the end adds up to what the clock shows.
+        // What a task of the scenario that lives at the end ran, waited and slept adds up to what the clock shows.
         ensures clock { let state = fold_of (R.opening room.now) (R.history room.now) in
             All (λ spec. lives spec.pid state ≡ true → (none : TaskTimes) →
             lived (slice_index_or self.new.tasks.tasks spec.pid none) ≡ state.clock)
@@ -151,7 +151,7 @@ impl RunSummary {
         self.replies = ReplyCounts::of(room);
     }
 
-    /// For how long what was so.
+    /// What held, and for how long.
     pub fn times(&self) -> &RunTimes
         ensures { result.now ≡ self.now.times }
     {
@@ -165,15 +165,15 @@ impl RunSummary {
         self.cookie_pairs.rows()
     }
 
-    /// The pairs of thread groups whose tasks ran side by side, by rising lower pid of their leaders, and then by rising
-    /// higher one.
+    /// The pairs of thread groups whose tasks ran side by side, by rising lower pid of their leaders, and then by
+    /// rising higher one.
     pub fn group_pairs(&self) -> &[PairTime]
         ensures { result.now ≡ self.now.group_pairs.rows }
     {
         self.group_pairs.rows()
     }
 
-    /// For how long each task and the tasks of each cookie did what, and what they were charged.
+    /// What each task and the tasks of each cookie did and for how long, and what they were charged.
     pub fn tasks(&self) -> &RunTasks
         ensures { result.now ≡ self.now.tasks }
     {

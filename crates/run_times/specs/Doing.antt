@@ -1,4 +1,4 @@
--- Doing: what is so of the siblings at a moment.
+-- Doing: what holds of the siblings at a moment.
 use Rattle.std.specs.Prelude.{ℕ, Bool, false, is_some, ◌==◌, ◌&&◌, not, nat_lt, if◌then◌else◌, List, length, Option, Some, None}
 use Rattle.std.specs.List.{list_any, range_with_len}
 use Rattle.std.specs.Option.{option_map, option_map_or}
@@ -63,17 +63,17 @@ are_one (Some a) (Some b) = a == b
 are_one (Some a) None = false
 are_one None other = false
 
--- whether two siblings are online, do not run idle, and do not run living tasks that are one by their cookies or by their
--- thread groups
+-- whether two siblings are online, do not run idle, and do not run living tasks that are one by their cookies or by
+-- their thread groups
 abbrev pub are_apart : By → RoomState → ℕ → ℕ → Bool
 are_apart by room a b = is_busy room a && is_busy room b && not (are_one (key_run by room a) (key_run by room b))
 
--- whether some two siblings are
+-- whether that holds of some two siblings
 abbrev pub some_apart : By → RoomState → Bool
 some_apart by room = list_any (λ a. list_any (are_apart by room a) (siblings_of room)) (siblings_of room)
 
--- Whether tasks with distinct cookies run side by side. So the core is exposed exactly if the online siblings that do not run
--- idle do not run living tasks with one cookie (`RunOneCookie`).
+-- Whether tasks with distinct cookies run side by side. So the core is exposed exactly if the online siblings that do
+-- not run idle do not run living tasks with one cookie (`RunOneCookie`).
 abbrev pub is_exposed : RoomState → Bool
 is_exposed room = some_apart Cookie room
 

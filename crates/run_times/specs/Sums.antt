@@ -62,8 +62,8 @@ with_span doing pending time times =
       pending = if pending then times.pending + time else times.pending;
     }
 
--- for how long tasks that are told apart ran side by side in these spans: in all, without a break at their end, and the longest
--- without a break
+-- for how long tasks that are told apart ran side by side in these spans: in all, without a break at their end, and the
+-- longest without a break
 abbrev pub side_by_side : By → List Span → SideBySide
 side_by_side by spans =
     record {

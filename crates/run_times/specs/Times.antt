@@ -1,4 +1,5 @@
--- Times: for how long a fact held in a history. Time passes in advances alone, so what is so before one is so in all of it.
+-- Times: for how long a fact held in a history. Time passes in advances alone, so what holds before one holds in all of
+-- it.
 use Rattle.std.specs.Prelude.{ℕ, ◌+◌, max, Bool, List, [], ◌∷◌, ◌++◌, length, map, filter, fold, take, reverse, sum_by, Option, Some, None}
 use Rattle.std.specs.List.{range_with_len, take_while}
 use Rattle.std.specs.Option.{option_map, option_to_list}
@@ -13,7 +14,7 @@ pub record Span : Type 0 where
   pub room : RoomState
   pub time : ℕ
 
--- how far an event moves the clock, in ns, none where it is no advance
+-- how far an event moves the clock, in ns, none if it is no advance
 abbrev pub advance_of : Event → Option ℕ
 advance_of (Advance delta) = Some delta
 advance_of event = None
@@ -39,11 +40,12 @@ total_time spans = sum_by (λ span. span.time) spans
 abbrev pub time_in : (RoomState → Bool) → List Span → ℕ
 time_in fact spans = total_time (filter (λ span. fact span.room) spans)
 
--- for how long a fact has lasted at the end of these spans, in ns: the time of the last of them, as far back as it holds
+-- for how long a fact has lasted at the end of these spans, in ns: the time of the last of them, as far back as it
+-- holds
 abbrev pub lasting : (RoomState → Bool) → List Span → ℕ
 lasting fact spans = total_time (take_while (λ span. fact span.room) (reverse spans))
 
--- the longest time for which it held without a break, in ns: the longest that it has lasted at the end of any of them. What
--- takes no time is no break.
+-- the longest time for which it held without a break, in ns: the longest that it has lasted at the end of any of them.
+-- What takes no time is no break.
 abbrev pub longest : (RoomState → Bool) → List Span → ℕ
 longest fact spans = fold max 0 (map (λ n. lasting fact (take n spans)) (range_with_len 0 (length spans + 1)))

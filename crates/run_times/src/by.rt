@@ -1,4 +1,4 @@
-//! By what the tasks that run side by side are told apart.
+//! What the tasks that run side by side are told apart by.
 
 ghost use Rattle.std.specs.Prelude.{◌≡◌};
 ghost use Rattle.cs_types.specs.declared.task.Task.{Task};
@@ -8,7 +8,7 @@ ghost use Rattle.run_times.specs.Doing as now;
 
 use cs_types::TaskView;
 
-/// By what the tasks that run side by side are told apart.
+/// What the tasks that run side by side are told apart by.
 #[derive(Clone, Copy)]
 pub enum By {
     /// By the cookie, 0 for none.

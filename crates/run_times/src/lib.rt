@@ -1,5 +1,5 @@
-//! For how long what was so in a run: what each sibling did, and how long tasks with distinct cookies, and tasks of distinct
-//! thread groups, ran side by side. It is over the contract of a machine alone.
+//! What held in a run, and for how long: what each sibling did, and how long tasks with distinct cookies, and tasks of
+//! distinct thread groups, ran side by side. It stands on the contract of a machine alone.
 #![tactic(auto)]
 
 mod by;

@@ -94,7 +94,7 @@ pub(crate) fn is_pending<R: Room>(room: &R, cpu: Cpu) -> bool
     }
 }
 
-/// Whether some sibling is.
+/// Whether some sibling is online and has a pending reschedule.
 pub(crate) fn some_pending<R: Room>(room: &R) -> bool
     ensures { result ≡ now.some_pending (fold_of (R.opening room.now) (R.history room.now)) }
 {

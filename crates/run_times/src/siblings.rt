@@ -6,7 +6,7 @@ ghost use Rattle.run_times.specs.Sums.{sibling_times, did, with_span};
 use crate::doing::Doing;
 use crate::side_by_side::add_if;
 
-/// For how long a sibling did what, in ns. What it ran, idled, was forced idle and was offline add up to all time.
+/// What a sibling did, and for how long, in ns. What it ran, idled, was forced idle and was offline add up to all time.
 #[derive(Clone, Copy)]
 pub struct SiblingTimes {
     /// It ran a task.

@@ -25,7 +25,7 @@ pub(crate) fn add_if(sum: &mut u64, counts: bool, time: u64)
     }
 }
 
-/// For how long what had lasted has lasted after this time: it ends if it does not hold.
+/// For how long a fact has lasted after this time, by how long it had lasted before: 0 if it does not hold in it.
 fn longer_if(lasted: u64, holds: bool, time: u64) -> u64
     requires { lasted + time ≤ u64.MAX }
     ensures { result ≡ (if holds then lasted + time else 0) }

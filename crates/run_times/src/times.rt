@@ -16,7 +16,7 @@ use cs_types::{Event, Room};
 use std::alloc::{AllocError, Global};
 use std::marker::Model;
 
-/// For how long what was so in a run, in ns. After it is opened it takes no memory.
+/// What held in a run, and for how long, in ns. After it is opened it takes no memory.
 #[derive(Drop)]
 pub struct RunTimes {
     siblings: Vec<SiblingTimes>,
@@ -96,7 +96,7 @@ impl RunTimes {
         })
     }
 
-    /// Adds the time of an advance, by what is so in the room before it.
+    /// Adds the time of an advance, by what holds in the room before it.
     fn advance<R: Room>(&mut self, room: &R, time: u64)
         requires playable { IsPlayable (R.opening room.now).scenario }
         requires events { AreEvents (R.opening room.now) (R.history room.now) }

@@ -45,7 +45,7 @@ fn write_number<K: Sink>(sink: &mut K, number: u64) -> Result<(), Failed>
     write_all(sink, buffer.format(number).as_bytes())
 }
 
-/// Writes so many spaces, at most 48.
+/// Writes this many spaces, at most 48.
 fn write_spaces<K: Sink>(sink: &mut K, count: u64) -> Result<(), Failed>
     ensures faultless { OnOk result (K.faults sink.new ≡ K.faults sink.old) }
     ensures failed { OnErr result (Rose (K.faults sink.old) (K.faults sink.new)) }

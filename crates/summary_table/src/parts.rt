@@ -20,7 +20,7 @@ const SHARE: Side = Side::Right(7);
 
 const COUNT: Side = Side::Right(10);
 
-/// How wide the first column is of what ran side by side.
+/// The width of the first column of what ran side by side.
 const NAMES: Side = Side::Left(43);
 
 /// Writes a heading and the names of the columns.
@@ -156,8 +156,8 @@ fn write_cookie<K: Sink>(sink: &mut K, cookie: u64, times: CookieTimes) -> Resul
     )
 }
 
-/// Writes what the tasks of each cookie did, added up: of the cookies that some task had for some time or to which something
-/// was charged.
+/// Writes what the tasks of each cookie did, added up: of the cookies that some task had for some time or to which
+/// something was charged.
 pub(crate) fn write_cookies<K: Sink>(sink: &mut K, cookies: &[CookieTimes]) -> Result<(), Failed>
     ensures faultless { OnOk result (K.faults sink.new ≡ K.faults sink.old) }
     ensures failed { OnErr result (Rose (K.faults sink.old) (K.faults sink.new)) }

@@ -11,7 +11,7 @@ use crate::parts::{
 use cs_outside::{Failed, Sink};
 use run_summary::RunSummary;
 
-/// Writes of what run the table tells.
+/// Writes which run the table is about.
 fn write_title<K: Sink>(sink: &mut K, summary: &RunSummary) -> Result<(), Failed>
     ensures faultless { OnOk result (K.faults sink.new ≡ K.faults sink.old) }
     ensures failed { OnErr result (Rose (K.faults sink.old) (K.faults sink.new)) }
@@ -37,9 +37,9 @@ fn write_title<K: Sink>(sink: &mut K, summary: &RunSummary) -> Result<(), Failed
     )
 }
 
-/// Writes the summary of a run for a person: a title, and for each part a heading and aligned lines, with times in ms and
-/// shares of all time in per cent, both rounded down. What `times_report::summary` says for scripts is said here too. It takes
-/// no memory. At an `Err` the sink has failed.
+/// Writes the summary of a run for a person: a title, and for each part a heading and aligned lines, with times in ms
+/// and shares of all time in per cent, both rounded down. What `times_report::summary` says for scripts is said here
+/// too. It takes no memory. At an `Err` the sink has failed.
 pub fn table<K: Sink>(summary: &RunSummary, sink: &mut K) -> Result<(), Failed>
     ensures faultless { OnOk result (K.faults sink.new ≡ K.faults sink.old) }
     ensures failed { OnErr result (Rose (K.faults sink.old) (K.faults sink.new)) }

@@ -14,13 +14,13 @@ doing_times time = record { ran = time runs; waited = time waits; slept = time s
 abbrev pub all_times : DoingTimes → ℕ
 all_times times = times.ran + times.waited + times.slept
 
--- the one of what is done
+-- the time of what is done
 abbrev pub part : TaskDoing → DoingTimes → ℕ
 part Runs times = times.ran
 part Waits times = times.waited
 part Sleeps times = times.slept
 
--- the times with so much more of what is done, where something is
+-- the times with this much more of what is done, if something is
 abbrev pub with_time : Option TaskDoing → ℕ → DoingTimes → DoingTimes
 with_time doing time times =
     record {

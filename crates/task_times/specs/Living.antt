@@ -14,7 +14,7 @@ use Rattle.cs_types.specs.History.{History, Moment, beginning, next, fold_of}
 use Rattle.task_times.specs.declared.doing.TaskDoing.{TaskDoing}
 use Rattle.task_times.specs.declared.doing.TaskDoing.TheVariants.{Runs, Waits, Sleeps}
 
--- what a living task does: it runs where a sibling runs it; else it waits where it is queued, and sleeps where it is not
+-- what a living task does: it runs if a sibling runs it; else it waits if it is queued, and sleeps if it is not
 abbrev pub doing_of : RoomState → Task → TaskDoing
 doing_of room task = if is_running room task then Runs else (if task.queued then Waits else Sleeps)
 
@@ -22,7 +22,7 @@ doing_of room task = if is_running room task then Runs else (if task.queued then
 abbrev pub lives : ℕ → RoomState → Bool
 lives pid room = is_some (task_of room pid)
 
--- what the task with a pid does, none where none lives that has it
+-- what the task with a pid does, none if no living task has it
 abbrev pub doing_at : RoomState → ℕ → Option TaskDoing
 doing_at room pid = option_map (doing_of room) (task_of room pid)
 
@@ -56,12 +56,12 @@ charged_in room pid = if is_known room pid then forced_of room pid else 0
 
 -- ---- the cookie for which a task counts
 
--- the task that an event is to end: at an exit what the sibling runs, where it is online
+-- the task that an event is to end: at an exit what the sibling runs, if it is online
 abbrev pub leaver : RoomState → Event → Option Task
 leaver room (Exit cpu) = if is_online room cpu then running_on room cpu else None
 leaver room event = None
 
--- the task that an event ends: the one that it is to end, where that leads no others
+-- the task that an event ends: the one that it is to end, if that leads no others
 abbrev pub ended_by : RoomState → Event → Option Task
 ended_by room event = option_and_then (λ task. if has_threads room task then None else Some task) (leaver room event)
 
@@ -74,13 +74,13 @@ leavers_from moment (entry ∷ entries) = option_to_list (leaver moment.room ent
 abbrev pub leavers_of : Opening → History → List Task
 leavers_of opening history = leavers_from (beginning opening) history
 
--- the cookie that a task had when it was to end: of these the last with the pid, 0 where there is none
+-- the cookie that a task had when it was to end: of these the last with the pid, 0 if there is none
 abbrev pub left_with : List Task → ℕ → ℕ
 left_with leavers pid = option_map_or (λ task. task.cookie) (find (has_pid pid) (reverse leavers)) 0
 
--- The cookie for which a task counts: of one that lives the cookie that it has, of one that ended the cookie that it had
--- when it was last to end. An exit can be refused, so a task may be to end more than once; after the one that ends it no
--- other is.
+-- The cookie for which a task counts: for one that lives the cookie that it has, for one that ended the cookie that it
+-- had when it was last to end. An exit can be refused, so a task may be to end more than once; after the one that ends
+-- it no other is.
 abbrev pub cookie_at : Opening → History → ℕ → ℕ
 cookie_at opening history pid =
     option_map_or (λ task. task.cookie) (task_of (fold_of opening history) pid) (left_with (leavers_of opening history) pid)

@@ -1,4 +1,4 @@
--- TaskSums: for how long each task and the tasks of each cookie did what, and what they were charged.
+-- TaskSums: what each task and the tasks of each cookie did and for how long, and what they were charged.
 use Rattle.std.specs.Prelude.{ℕ, ◌+◌, ◌*◌, ◌==◌, Bool, false, if◌then◌else◌, List, length, map, filter, sum_by, Option, Some}
 use Rattle.std.specs.List.{range_with_len}
 use Rattle.std.specs.Option.{option_map_or}
@@ -51,7 +51,7 @@ cookie_times charged spans cookie =
 abbrev pub all_charged : List TaskTimes → ℕ
 all_charged tasks = sum_by (λ times. times.charged) tasks
 
--- what was charged to a cookie: what those of these tasks were that count for it
+-- what was charged to a cookie: what those of these tasks that count for it were charged
 abbrev pub charged_to : List TaskTimes → ℕ → ℕ
 charged_to tasks cookie = all_charged (filter (λ times. times.cookie == cookie) tasks)
 
@@ -70,7 +70,8 @@ pub record TaskSums : Type 0 where
   -- the times of the tasks of each cookie, by its number
   pub cookies : List CookieTimes
 
--- how many pids and cookies there can be with so many entries: a pid of a scenario is at most 9999, and an entry makes one more at most
+-- how many pids and cookies there can be with this many entries: a pid of a scenario is at most 9999, and an entry
+-- makes one more at most
 abbrev pub pids_for : ℕ → ℕ
 pids_for entries = entries + 10000
 
@@ -132,15 +133,15 @@ counted_for cookie times = record times { cookie = cookie }
 abbrev pub with_charge : ℕ → TaskTimes → TaskTimes
 with_charge charged times = record times { charged = charged }
 
--- the times of a task, with what it was charged in a room where that is to be told
+-- the times of a task, with what it was charged in a room, if that is to be noted
 abbrev pub charged_where : Bool → RoomState → ℕ → TaskTimes → TaskTimes
 charged_where told room pid times = if told then with_charge (forced_of room pid) times else times
 
--- the times of a task, with what it was charged and the cookie that it has where it lives
+-- the times of a task, with what it was charged and the cookie that it has if it lives
 abbrev pub charged_living : Option Task → RoomState → ℕ → TaskTimes → TaskTimes
 charged_living found room pid times =
     option_map_or (λ task. with_charge (forced_of room pid) (counted_for task.cookie times)) found times
 
--- the times of a cookie with so much more charged to it
+-- the times of a cookie with this much more charged to it
 abbrev pub charged_more : ℕ → CookieTimes → CookieTimes
 charged_more charged times = record times { charged = times.charged + charged }

@@ -1,5 +1,5 @@
-//! For how long each task ran, waited and slept in a run, and the tasks of each cookie. It is over the contract of a
-//! machine alone.
+//! For how long each task ran, waited and slept in a run, and the tasks of each cookie. It stands on the contract of
+//! a machine alone.
 #![tactic(auto)]
 
 mod doing;

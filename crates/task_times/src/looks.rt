@@ -12,8 +12,8 @@ ghost use Rattle.task_times.specs.Living as living;
 use crate::doing::TaskDoing;
 use cs_types::{Room, TaskView};
 
-/// Whether a sibling runs a living task, by what is shown of it. What a sibling runs is queued on it, so only the home of
-/// the task can run it.
+/// Whether a sibling runs a living task, by what is shown of it. What a sibling runs is queued on it, so only the home
+/// of the task can run it.
 fn is_running<R: Room>(room: &R, task: TaskView) -> bool
     requires playable { IsPlayable (R.opening room.now).scenario }
     requires events { AreEvents (R.opening room.now) (R.history room.now) }

@@ -21,8 +21,8 @@ use run_times::{advance_of, cookie_run};
 use std::alloc::{AllocError, Global};
 use std::marker::Model;
 
-/// For how long each task and the tasks of each cookie did what in a run, and what they were charged, in ns. After it is
-/// opened it takes no memory.
+/// What each task and the tasks of each cookie did in a run and for how long, and what they were charged, in ns. After
+/// it is opened it takes no memory.
 #[derive(Drop)]
 pub struct RunTasks {
     /// By the pid.
@@ -171,8 +171,8 @@ fn charge_cookies(cookies: &mut [CookieTimes], tasks: &[TaskTimes])
 }
 
 impl RunTasks {
-    /// The times before the first entry, for this number of entries: those of the steps, and those of the end
-    /// where these are told too.
+    /// The times before the first entry, for this number of entries: those of the steps, and those of the
+    /// final drain if these are taken in too.
     pub fn open(alloc: Global, entries: usize) -> Result<Self, AllocError>
         requires { entries < 2 ^ 26 }
         ensures { IfOk result
@@ -244,9 +244,9 @@ impl RunTasks {
         }
     }
 
-    /// Notes what each task was charged and the cookie for which that counts, and adds it up by cookies, at the end of a
-    /// run. The room has to be the one whose times these are, and may have made as many entries as these
-    /// were opened for.
+    /// Notes what each task was charged and the cookie for which that counts, and adds it up by cookies, at the end of
+    /// a run. The room has to be the one whose times these are, and may have made as many entries as these were opened
+    /// for.
     pub fn close<R: Room>(&mut self, room: &R)
         requires playable { IsPlayable (R.opening room.now).scenario }
         requires times { self.old
@@ -262,7 +262,7 @@ impl RunTasks {
             ≡ span.time_in (living.lives pid)
             (span.spans_of (R.opening room.now) (R.history room.now)) }
 
-        // So of a task of the scenario that lives at the end it is what the clock shows.
+        // So for a task of the scenario that lives at the end it is what the clock shows.
         ensures clock { let state = fold_of (R.opening room.now) (R.history room.now) in
             All (λ spec. living.lives spec.pid state ≡ true → (none : TaskTimes) →
             sums.lived (slice_index_or self.new.tasks spec.pid none) ≡ state.clock)

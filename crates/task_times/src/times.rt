@@ -6,26 +6,28 @@ ghost use Rattle.task_times.specs.TaskSums.{task_times, cookie_times, lived, had
 use crate::doing_times::DoingTimes;
 use cs_types::Cookie;
 
-/// For how long a task did what, in ns. What it ran, waited and slept add up to the time in which it lived.
+/// What a task did, and for how long, in ns. What it ran, waited and slept add up to the time in which it lived.
 #[derive(Clone, Copy)]
 pub struct TaskTimes {
     /// For how long it ran, waited and slept.
     pub by_doing: DoingTimes,
-    /// What it was charged for forced idle. 0 before the end of a run is told.
+    /// What it was charged for forced idle. It is 0 until that is noted at the end of a run.
     pub charged: u64,
-    /// The cookie for which that counts: the one that it has at the end, or had when it ended, 0 for none. Of a task
-    /// that lives it is told at the end of a run. A cookie is no greater than the number of entries, so 32 bits hold it.
+    /// The cookie for which that counts: the one that it has at the end, or had when it ended, 0 for none. For a task
+    /// that lives it is noted at the end of a run. A cookie is no greater than the number of entries, so 32 bits hold
+    /// it.
     pub cookie: u32,
 }
 
-/// For how long the tasks of a cookie did what, in ns, added over these tasks: where two of them run side by side, that
-/// counts twice. With its times a task counts for the cookie that it has at the time, and with all that it was charged
-/// for the last that it had.
+/// What the tasks of a cookie did, and for how long, in ns, added over these tasks: if two of them run side by side,
+/// that counts twice. The times of a task count for the cookie that it has at the time, and all that it was charged
+/// counts for the last one that it had.
 #[derive(Clone, Copy)]
 pub struct CookieTimes {
     /// For how long they ran, waited and slept.
     pub by_doing: DoingTimes,
-    /// What the tasks were charged for forced idle whose last cookie it is. 0 before the end of a run is told.
+    /// What the tasks whose last cookie it is were charged for forced idle. It is 0 until that is noted at the end of a
+    /// run.
     pub charged: u128,
 }
 
@@ -84,7 +86,7 @@ impl CookieTimes {
         }
     }
 
-    /// Adds what a task was charged. The most that can be has to fit.
+    /// Adds what a task was charged. The most that it can be has to fit.
     pub(crate) fn charge(&mut self, charged: u64)
         requires { self.old.charged + u64.MAX ≤ u128.MAX }
         ensures sum { self.new ≡ charged_more charged self.old }
@@ -93,7 +95,8 @@ impl CookieTimes {
         self.charged += u128::from(charged);
     }
 
-    /// Whether there is something to show of it: some task had the cookie for some time, or something was charged to it.
+    /// Whether there is something to show of it: some task had the cookie for some time, or something was charged to
+    /// it.
     pub fn is_shown(&self) -> bool
         ensures { result ≡ (nat_lt 0 (had self.now) || nat_lt 0 self.now.charged) }
     {

@@ -23,20 +23,21 @@ cpu_words cpu times =
     codes "cpu" ∷ decimal cpu ∷ codes "ran" ∷ decimal times.ran ∷ codes "idle" ∷ decimal times.idled
     ∷ codes "offline" ∷ decimal times.offline ∷ codes "pending" ∷ decimal times.pending ∷ []
 
--- `forced` I `cookie` T `none` T: for how long the sibling was forced idle, while the core had a cookie and while it had none
+-- `forced` I `cookie` T `none` T: for how long the sibling was forced idle, while the core had a cookie and while it
+-- had none
 abbrev pub forced_words : ℕ → SiblingTimes → List Word
 forced_words cpu times =
     codes "forced" ∷ decimal cpu ∷ codes "cookie" ∷ decimal times.forced_by_cookie
     ∷ codes "none" ∷ decimal times.forced_by_none ∷ []
 
--- For how long tasks that are told apart ran side by side, and for how long without a break. `exposed` T `longest` T is by their
--- cookies, `mixed` T `longest` T by their thread groups.
+-- For how long tasks that are told apart ran side by side, and for how long without a break. `exposed` T `longest` T is
+-- by their cookies, `mixed` T `longest` T by their thread groups.
 abbrev pub side_words : By → SideBySide → List Word
 side_words Cookie times = codes "exposed" ∷ decimal times.all ∷ codes "longest" ∷ decimal times.longest ∷ []
 side_words Group times = codes "mixed" ∷ decimal times.all ∷ codes "longest" ∷ decimal times.longest ∷ []
 
--- `pair` A B `exposed` T: for how long tasks with the two cookies ran side by side. `groups` A B `mixed` T: for how long tasks of
--- the two thread groups did, each by the pid of its leader
+-- `pair` A B `exposed` T: for how long tasks with the two cookies ran side by side. `groups` A B `mixed` T: for how
+-- long tasks of the two thread groups did, each by the pid of its leader
 abbrev pub pair_words : By → PairTime → List Word
 pair_words Cookie pair = codes "pair" ∷ decimal pair.low ∷ decimal pair.high ∷ codes "exposed" ∷ decimal pair.time ∷ []
 pair_words Group pair = codes "groups" ∷ decimal pair.low ∷ decimal pair.high ∷ codes "mixed" ∷ decimal pair.time ∷ []

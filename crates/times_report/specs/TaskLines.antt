@@ -14,14 +14,15 @@ use Rattle.scenario_text.specs.Text.{line}
 abbrev pub doing_words : DoingTimes → List Word
 doing_words times = codes "ran" ∷ decimal times.ran ∷ codes "waited" ∷ decimal times.waited ∷ codes "slept" ∷ decimal times.slept ∷ []
 
--- `task` PID `ran` T `waited` T `slept` T `charged` T `cookie` C: for how long a sibling ran the task, it was queued and none
--- ran it, and it was not queued; what it was charged for forced idle; and the cookie for which that counts, 0 for none
+-- `task` PID `ran` T `waited` T `slept` T `charged` T `cookie` C: for how long a sibling ran the task, it was queued
+-- and none ran it, and it was not queued; what it was charged for forced idle; and the cookie for which that counts, 0
+-- for none
 abbrev pub task_words : ℕ → TaskTimes → List Word
 task_words pid times =
     codes "task" ∷ decimal pid ∷ doing_words times.by_doing ++ codes "charged" ∷ decimal times.charged ∷ codes "cookie" ∷ decimal times.cookie ∷ []
 
--- `cookie` C `ran` T `waited` T `slept` T `charged` T: the same of the tasks that had the cookie, 0 for none, added over these
--- tasks; and what the tasks were charged that count for it
+-- `cookie` C `ran` T `waited` T `slept` T `charged` T: the same for the tasks that had the cookie, 0 for none, added
+-- over these tasks; and what the tasks that count for it were charged
 abbrev pub cookie_words : ℕ → CookieTimes → List Word
 cookie_words cookie times =
     codes "cookie" ∷ decimal cookie ∷ doing_words times.by_doing ++ codes "charged" ∷ decimal times.charged ∷ []

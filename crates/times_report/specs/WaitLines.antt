@@ -4,7 +4,8 @@ use Rattle.std.specs.List.{flat_map, enumerate_from}
 use Rattle.wait_times.specs.declared.rows.TaskWaits.{TaskWaits}
 use Rattle.scenario_text.specs.Words.{Word}
 
--- `waits` PID `count` N `longest` T `sum` T: how often the task waited from a wake to its run, for how long at most, and in all
+-- `waits` PID `count` N `longest` T `sum` T: how often the task waited from a wake to its run, for how long at most,
+-- and in all
 abbrev pub wait_words : ℕ → TaskWaits → List Word
 wait_words pid waits =
     codes "waits" ∷ decimal pid ∷ codes "count" ∷ decimal waits.count ∷ codes "longest" ∷ decimal waits.longest

@@ -10,7 +10,7 @@ use cs_outside::{Failed, Sink, write_all};
 use scenario_text::Line;
 use task_times::{CookieTimes, DoingTimes, RunTasks, TaskTimes};
 
-/// Puts for how long something ran, waited and slept behind what is on the line.
+/// Puts for how long something ran, waited and slept after what is on the line.
 fn put_times(line: &mut Line, times: &DoingTimes)
     requires { length line.old + 80 ≤ line_bytes }
     ensures text { line.new ≡ line.old ++ 32 ∷ spaced (told.doing_words times.now) }
@@ -44,7 +44,7 @@ fn cookie_line(cookie: u32, times: &CookieTimes) -> Line
     line
 }
 
-/// The line of a task, where it lived for some time or was charged something.
+/// The line of a task, if it lived for some time or was charged something.
 fn write_task<K: Sink>(pid: u32, times: &TaskTimes, sink: &mut K) -> Result<(), Failed>
     ensures ok { OnOk result (K.written sink.new
         ≡ appended (K.written sink.old) (flat_map line (told.line_of_task (pid, times.now)))) }
@@ -62,7 +62,7 @@ fn write_task<K: Sink>(pid: u32, times: &TaskTimes, sink: &mut K) -> Result<(), 
     }
 }
 
-/// The line of a cookie, where some task had it for some time or something was charged to it.
+/// The line of a cookie, if some task had it for some time or something was charged to it.
 fn write_cookie<K: Sink>(cookie: u32, times: &CookieTimes, sink: &mut K) -> Result<(), Failed>
     ensures ok { OnOk result (K.written sink.new
         ≡ appended (K.written sink.old) (flat_map line (told.line_of_cookie (cookie, times.now)))) }
@@ -116,10 +116,10 @@ fn write_cookies<K: Sink>(cookies: &[CookieTimes], sink: &mut K) -> Result<(), F
     Ok(())
 }
 
-/// Writes what is told of the tasks and the cookies of a run: a line for each task that lived for some time or was charged
-/// something, by rising pid, and then one for each cookie that some task had for some time or to which something was
-/// charged, by rising number. Each line goes to the sink in one piece, and again with the rest where the sink took only a
-/// part. At an `Err` the sink has failed, and a prefix of the text is written. It takes no memory.
+/// Writes what is told of the tasks and the cookies of a run: a line for each task that lived for some time or was
+/// charged something, by rising pid, and then one for each cookie that some task had for some time or to which
+/// something was charged, by rising number. Each line goes to the sink in one piece, and again with the rest if the
+/// sink took only a part. At an `Err` the sink has failed, and a prefix of the text is written. It takes no memory.
 pub(crate) fn task_summary<K: Sink>(times: &RunTasks, sink: &mut K) -> Result<(), Failed>
     ensures ok { OnOk result (K.written sink.new
         ≡ appended (K.written sink.old) (told.task_text times.now)) }

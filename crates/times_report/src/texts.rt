@@ -52,8 +52,8 @@ fn write_pairs<K: Sink>(by: By, pairs: &[PairTime], sink: &mut K) -> Result<(), 
     Ok(())
 }
 
-/// For how long tasks that are told apart ran side by side, and then which. At an `Err` the sink has failed, and a prefix
-/// of these lines is written.
+/// For how long tasks that are told apart ran side by side, and then which. At an `Err` the sink has failed, and a
+/// prefix of these lines is written.
 fn write_side<K: Sink>(
     by: By,
     times: SideBySide,
@@ -89,12 +89,11 @@ fn write_end<K: Sink>(times: &RunTimes, replies: &ReplyCounts, sink: &mut K) -> 
     write_all(sink, total_line(times).as_bytes())
 }
 
-/// Writes what is told of a run: what each sibling, each task and the tasks of each cookie did and for how long; how often
-/// and for how long each task waited from a wake to its run; for how
-/// long tasks with distinct cookies ran side by side, and which; for how long tasks of distinct thread groups did, and which;
-/// for how long a reschedule was pending, how many steps were refused, and all time. Each line goes to the sink in one piece,
-/// and again with the rest if the sink took only a part. At an `Err` the sink has failed, and a prefix of the text is written.
-/// It takes no memory.
+/// Writes what is told of a run: what each sibling, each task and the tasks of each cookie did and for how long; how
+/// often and for how long each task waited from a wake to its run; for how long tasks with distinct cookies ran side by
+/// side, and which; for how long tasks of distinct thread groups did, and which; for how long a reschedule was pending,
+/// how many steps were refused, and all time. Each line goes to the sink in one piece, and again with the rest if the
+/// sink took only a part. At an `Err` the sink has failed, and a prefix of the text is written. It takes no memory.
 pub fn summary<K: Sink>(summary: &RunSummary, sink: &mut K) -> Result<(), Failed>
     ensures ok { OnOk result (K.written sink.new
         ≡ appended (K.written sink.old) (summary_text summary.now)) }

@@ -1,4 +1,5 @@
-//! What is told of the waits of the tasks of a run. Each line is put together without a sink, so that a sink gets it whole.
+//! What is told of the waits of the tasks of a run. Each line is put together without a sink, so that a sink gets it
+//! whole.
 
 ghost use Rattle.std.specs.Prelude.{◌≡◌, ◌^◌, ◌<◌, ◌≤◌, OnOk, OnErr, length, nat_lt};
 ghost use Rattle.std.specs.List.{flat_map};
@@ -53,8 +54,8 @@ fn write_task_waits<K: Sink>(pid: u32, waits: &TaskWaits, sink: &mut K) -> Resul
     }
 }
 
-/// Writes a line for each task that waited from a wake to its run, by rising pid. At an `Err` the sink has failed, and a
-/// prefix of them is written.
+/// Writes a line for each task that waited from a wake to its run, by rising pid. At an `Err` the sink has failed, and
+/// a prefix of them is written.
 pub(crate) fn write_waits<K: Sink>(tasks: &[TaskWaits], sink: &mut K) -> Result<(), Failed>
     requires few { length tasks.now < 2 ^ 32 }
     ensures ok { OnOk result (K.written sink.new

@@ -23,7 +23,7 @@ pub record Waits : Type 0 where
 abbrev pub row_of : List ℕ → TaskWaits
 row_of waits = record { count = length waits; longest = fold max 0 waits; sum = sum waits; since = None }
 
--- the waits of a history at its end: a row for each task that there can be with so many entries
+-- the waits of a history at its end: a row for each task that there can be with this many entries
 abbrev pub waits_of : ℕ → Opening → History → Waits
 waits_of entries opening history =
     record {
@@ -33,12 +33,14 @@ waits_of entries opening history =
 
 -- ---- a run that goes on
 
--- the wait that goes on since a moment of the clock, if one does: what it took until now, and what it takes in these entries
+-- the wait that goes on since a moment of the clock, if one does: what it took until now, and what it takes in these
+-- entries
 abbrev pub going_on : ℕ → Option ℕ → List Look → List ℕ
 going_on clock since later = option_to_list (option_map (λ began. clock - began + wait_before later) since)
 
 -- This is the row of a task after a history that goes on. It tells the waits that are over, and since when one goes on.
--- Whatever entries come, the waits are those that are over, the one that goes on, and those that begin in these entries.
+-- Whatever entries come, the waits are those that are over, the one that goes on, and those that begin in these
+-- entries.
 pub record IsRowSoFar (opening : Opening) (history : History) (pid : ℕ) (row : TaskWaits) : Type 0 where
   pub over : List ℕ
   pub told : row ≡ record (row_of over) { since = row.since }
@@ -59,7 +61,7 @@ pub record AreWaitsBefore (opening : Opening) (history : History) (entry : Entry
   pub added : history ≡ past ++ entry ∷ []
   pub so_far : AreWaitsSoFar opening past waits
 
--- These are the rows before the entries of the end, which are the last of the history.
+-- These are the rows before the entries of the final drain, which are the last of the history.
 pub record AreWaitsBeforeEnd (opening : Opening) (history : History) (waits : Waits) : Type 0 where
   pub past : History
   pub drained : IsDrained opening past history

@@ -55,18 +55,18 @@ looks_from pid moment (entry ∷ entries) =
 
 -- ---- the waits
 
--- Whether a wait ends at an entry: a sibling runs the task before it, be it for no time, or the entry wakes the task anew
--- (which the rules allow only after it ran).
+-- Whether a wait ends at an entry: a sibling runs the task before it, be it for no time, or the entry wakes the task
+-- anew (which the rules allow only after it ran).
 abbrev pub ends_wait : Look → Bool
 ends_wait look = look.runs || look.wakes
 
--- for how long a task that was woken just before these entries waits in them, in ns: up to the first that ends the wait, or
--- in all of them
+-- for how long a task that was woken just before these entries waits in them, in ns: up to the first that ends the
+-- wait, or in all of them
 abbrev pub wait_before : List Look → ℕ
 wait_before later = sum_by (λ (look : Look). look.time) (take_while (λ look. not (ends_wait look)) later)
 
--- The waits that begin in these entries, in ns and in their order: one after each entry that wakes the task. A task that is
--- queued when the run begins was not woken, so its time until it first runs is none of them.
+-- The waits that begin in these entries, in ns and in their order: one after each entry that wakes the task. A task
+-- that is queued when the run begins was not woken, so its time until it first runs is none of them.
 abbrev pub waits_in : List Look → List ℕ
 waits_in [] = []
 waits_in (look ∷ later) = (if look.wakes then wait_before later ∷ [] else []) ++ waits_in later

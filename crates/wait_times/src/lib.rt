@@ -1,5 +1,5 @@
-//! How often and for how long each task of a run waited from a wake until a sibling ran it. It is
-//! over the contract of a machine alone.
+//! How often and for how long each task of a run waited from a wake until a sibling ran it. It
+//! stands on the contract of a machine alone.
 #![tactic(auto)]
 
 mod rows;

@@ -18,7 +18,7 @@ pub struct TaskWaits {
     pub longest: u64,
     /// Their sum.
     pub sum: u64,
-    /// When the wait began that goes on, by the clock. `None` if none does, as at the end of a run.
+    /// When the wait that goes on began, by the clock. `None` if none does, as at the end of a run.
     pub(crate) since: Option<u64>,
 }
 

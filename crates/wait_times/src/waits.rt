@@ -69,9 +69,9 @@ impl RunWaits {
         }
     }
 
-    /// Ends the waits that go on, in a room whose run is over: the entries of its end are made. The
-    /// room has to be the one whose waits these are, and may have made as many entries as these
-    /// were opened for.
+    /// Ends the waits that go on, in a room whose run is over: the entries of the final drain are
+    /// made. The room has to be the one whose waits these are, and may have made as many entries as
+    /// these were opened for.
     pub fn close<R: Room>(&mut self, room: &R)
         requires playable { IsPlayable (R.opening room.now).scenario }
         requires events { AreEvents (R.opening room.now) (R.history room.now) }
