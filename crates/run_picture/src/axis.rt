@@ -18,7 +18,7 @@ fn is_sparse(total: u64, step: u64) -> bool {
     total / STEPS < step
 }
 
-/// The least of this power of ten, its fifth and its half that is a step, where the power is one.
+/// The least of this power of ten, its fifth and its half that is a step, if the power is one.
 fn finest(total: u64, power: u64) -> u64 {
     if is_sparse(total, power / 5) {
         power / 5
@@ -29,7 +29,8 @@ fn finest(total: u64, power: u64) -> u64 {
     }
 }
 
-/// How far the lines are apart, in ns: 1, 2 or 5 times a power of ten, and as little as leaves room for what is written.
+/// How far the lines are apart, in ns: 1, 2 or 5 times a power of ten, and as little as leaves room for what is
+/// written.
 fn step_of(total: u64) -> u64 {
     for power in 0..19 {
         let step = power_of_ten(power);
@@ -40,7 +41,7 @@ fn step_of(total: u64) -> u64 {
     power_of_ten(19)
 }
 
-/// What is written at a time, in a unit. The begin needs none.
+/// What is written at a time, in a unit. The start needs none.
 fn words(time: u64, unit: TimeUnit) -> Piece<'static> {
     if time == 0 {
         Piece::Number(0)

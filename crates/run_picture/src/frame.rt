@@ -25,7 +25,7 @@ pub(crate) const PAGE_WIDTH: u64 = RIGHT + 134;
 /// How high a lane is.
 pub(crate) const LANE_HEIGHT: u64 = 30;
 
-/// How far the begin of a lane is from that of the next.
+/// How far the start of a lane is from that of the next.
 const LANE_STEP: u64 = 54;
 
 /// Where the row of exposure begins, and how high it is.
@@ -33,7 +33,7 @@ pub(crate) const EXPOSED_TOP: u64 = 66;
 
 pub(crate) const EXPOSED_HEIGHT: u64 = 18;
 
-/// Where the row begins of thread groups side by side, and how high it is.
+/// Where the row of thread groups side by side begins, and how high it is.
 pub(crate) const MIXED_TOP: u64 = EXPOSED_TOP + EXPOSED_HEIGHT + 6;
 
 pub(crate) const MIXED_HEIGHT: u64 = 10;

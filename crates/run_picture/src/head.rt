@@ -9,9 +9,9 @@ use crate::scale::Scale;
 use cs_outside::{Failed, Sink};
 use run_segments::{RunSegments, Window};
 
-/// How marks are drawn, by their classes: b behind the lanes, e exposed, u thread groups side by side, w waiting, p and q pending, t events, l lanes, m and s labels,
-/// i idle, x offline, f frames, a the axis, n names, r shares, h and k the head. A mark of exposure has an outline of its own
-/// colour, so that a short one is orange too.
+/// How marks are drawn, by their classes: b behind the lanes, e exposed, u thread groups side by side, w waiting, p and
+/// q pending, t events, l lanes, m and s labels, i idle, x offline, f frames, a the axis, n names, r shares, h and k
+/// the head. A mark of exposure has an outline of its own colour, so that a short one is orange too.
 const STYLE: &str = "<style>\n\
 text{font:12px sans-serif;fill:#222}\n\
 .h{font-size:17px;font-weight:bold}\n\
@@ -55,7 +55,7 @@ fn longest_of(windows: &[Window]) -> u64 {
     longest
 }
 
-/// Writes the begin of a page of this height: how marks are drawn.
+/// Writes the start of a page of this height: how marks are drawn.
 pub(crate) fn write_begin<K: Sink>(sink: &mut K, height: u64) -> Result<(), Failed>
     ensures faultless { OnOk result (K.faults sink.new ≡ K.faults sink.old) }
     ensures failed { OnErr result (Rose (K.faults sink.old) (K.faults sink.new)) }
@@ -84,7 +84,8 @@ pub(crate) fn write_begin<K: Sink>(sink: &mut K, height: u64) -> Result<(), Fail
     )
 }
 
-/// Writes for how long tasks that are told apart ran side by side, after these words, or the other words if they never did.
+/// Writes for how long tasks that are told apart ran side by side, after these words, or the other words if they never
+/// did.
 fn write_side<K: Sink>(
     sink: &mut K,
     scale: Scale,

@@ -1,5 +1,5 @@
-//! The text in a mark, where there is room for one. It is laid out by a guess of how wide a text is that a wide font
-//! keeps too, such as DejaVu Sans or Verdana, since a page does not know its font.
+//! The text in a mark, if there is room for one. It is laid out by a guess of how wide a text is, which holds even
+//! for a wide font, such as DejaVu Sans or Verdana, since a page does not know its font.
 
 ghost use Rattle.std.specs.Prelude.{◌≡◌, ◌≤◌, OnOk, OnErr};
 ghost use Rattle.cs_outside.specs.Device.{Rose};
@@ -26,7 +26,7 @@ const SMALL_DIGIT: u64 = 5_800;
 /// What stays free beside a text, on its two sides together, in thousandths of a unit.
 const MARGIN: u64 = 4 * UNIT;
 
-/// How wide a mark is at least in which a pid stands upright.
+/// How wide a mark has to be for a pid to stand upright in it.
 const UPRIGHT: u64 = 12 * UNIT;
 
 /// The text in a mark.
@@ -169,7 +169,7 @@ fn write_words<K: Sink>(sink: &mut K, label: Label) -> Result<(), Failed>
     }
 }
 
-/// Writes the begin of a label in the middle of a mark.
+/// Writes the start of a label in the middle of a mark.
 fn write_begin<K: Sink>(sink: &mut K, label: Label, strip: Strip) -> Result<(), Failed>
     ensures faultless { OnOk result (K.faults sink.new ≡ K.faults sink.old) }
     ensures failed { OnErr result (Rose (K.faults sink.old) (K.faults sink.new)) }

@@ -26,7 +26,7 @@ fn with_next(waiting: Option<Gathered>, segment: &Segment, shades: &Shades) -> G
     }
 }
 
-/// Writes the mark of what was gathered, where there is any.
+/// Writes the mark of what was gathered, if there is any.
 fn write_waiting<K: Sink>(
     sink: &mut K,
     scale: Scale,
@@ -42,7 +42,7 @@ fn write_waiting<K: Sink>(
     }
 }
 
-/// Writes the next segment of a lane where it is wide, and gathers it where it is not. It answers what waits for the one
+/// Writes the next segment of a lane if it is wide, and gathers it if it is not. It answers what waits for the one
 /// after it: what is gathered and not yet as wide as a mark.
 fn write_next<K: Sink>(
     sink: &mut K,
@@ -87,7 +87,7 @@ fn write_marks<K: Sink>(
     write_waiting(sink, scale, shades, waiting)
 }
 
-/// All that a sibling did. `None` where it has no segment.
+/// All that a sibling did. `None` if it has no segment.
 fn all_of(segments: &[Segment], shades: &Shades, cpu: Cpu) -> Option<Gathered> {
     let mut all = None;
     for segment in segments {
@@ -98,7 +98,7 @@ fn all_of(segments: &[Segment], shades: &Shades, cpu: Cpu) -> Option<Gathered> {
     all
 }
 
-/// Writes which share of all time something took, at this height beside the lane, where it took any.
+/// Writes which share of all time something took, at this height beside the lane, if it took any.
 fn write_share<K: Sink>(
     sink: &mut K,
     scale: Scale,

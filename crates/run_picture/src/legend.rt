@@ -1,5 +1,5 @@
-//! The legend: the look of each cookie or thread group, and what each mark means, in words. Nothing stands beside the words, which may be
-//! as wide as the font makes them.
+//! The legend: the look of each cookie or thread group, and what each mark means, in words. Nothing stands beside the
+//! words, which may be as wide as the font makes them.
 
 ghost use Rattle.std.specs.Prelude.{◌≡◌, ◌^◌, ◌<◌, ◌≤◌, OnOk, OnErr};
 ghost use Rattle.cs_outside.specs.Device.{Rose};
@@ -13,7 +13,7 @@ use cs_outside::{Failed, Sink};
 use cs_types::Cookie;
 use run_times::By;
 
-/// How wide a column is of the looks of the cookies or groups.
+/// How wide a column of the looks of the cookies or groups is.
 const COLUMN_WIDTH: u64 = 200;
 
 /// What a line of the legend explains.
@@ -117,7 +117,7 @@ impl Shades {
     }
 }
 
-/// Writes the begin of an entry: where it stands, in units.
+/// Writes the start of an entry: where it stands, in units.
 fn write_place<K: Sink>(sink: &mut K, left: u64, top: u64) -> Result<(), Failed>
     ensures faultless { OnOk result (K.faults sink.new ≡ K.faults sink.old) }
     ensures failed { OnErr result (Rose (K.faults sink.old) (K.faults sink.new)) }

@@ -1,5 +1,5 @@
-//! How a cookie is drawn: in a colour and with a pattern, so that it reads in grey too. The colours are those that Okabe
-//! and Ito chose, which the colour-blind tell apart. Their vermilion is not among them: it marks exposure alone.
+//! How a cookie is drawn: in a colour and with a pattern, so that it reads in grey too. The colours are those that
+//! Okabe and Ito chose, which the colour-blind tell apart. Their vermilion is not among them: it marks exposure alone.
 
 ghost use Rattle.std.specs.Prelude.{◌<◌};
 
@@ -8,8 +8,8 @@ use cs_types::Cookie;
 /// How many colours there are for cookies.
 const COLOURS: u64 = 6;
 
-/// How many patterns there are for cookies. It shares no factor with the number of colours, so each pair of a colour and
-/// a pattern comes up before one comes again.
+/// How many patterns there are for cookies. It shares no factor with the number of colours, so each pair of a colour
+/// and a pattern comes up before one comes again.
 const PATTERNS: u64 = 7;
 
 /// How many looks there are for cookies.

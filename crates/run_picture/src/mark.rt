@@ -22,7 +22,7 @@ const HIGH: u64 = LANE_HEIGHT * UNIT;
 
 const SEEN: u64 = 4 * UNIT;
 
-/// How wide a mark is at least that has an outline, in thousandths of a unit. It would hide one that is narrower.
+/// How wide a mark has to be to have an outline, in thousandths of a unit. An outline would hide a narrower one.
 const OUTLINED: u64 = 3 * UNIT;
 
 /// A rectangle on a lane, in thousandths of a unit.
@@ -52,7 +52,7 @@ fn strip_of(scale: Scale, segment: &Segment) -> Strip {
     }
 }
 
-/// Writes the begin of a mark that is as high as the lane.
+/// Writes the start of a mark that is as high as the lane.
 fn write_rect<K: Sink>(sink: &mut K, strip: Strip, paint: Paint) -> Result<(), Failed>
     ensures faultless { OnOk result (K.faults sink.new ≡ K.faults sink.old) }
     ensures failed { OnErr result (Rose (K.faults sink.old) (K.faults sink.new)) }
@@ -128,7 +128,7 @@ pub(crate) fn write_segment<K: Sink>(
     write_label(sink, shades, segment, strip)
 }
 
-/// Writes a part of a mark of several segments, where it has a height.
+/// Writes a part of a mark of several segments, if it has a height.
 fn write_part<K: Sink>(sink: &mut K, area: Area, paint: Paint) -> Result<(), Failed>
     ensures faultless { OnOk result (K.faults sink.new ≡ K.faults sink.old) }
     ensures failed { OnErr result (Rose (K.faults sink.old) (K.faults sink.new)) }
@@ -156,8 +156,8 @@ fn write_part<K: Sink>(sink: &mut K, area: Area, paint: Paint) -> Result<(), Fai
     )
 }
 
-/// How much of the height of a lane what was forced idle gets in a mark: its share of the time, and so much that it is
-/// seen where there is any.
+/// How much of the height of a lane what was forced idle gets in a mark: its share of the time, and enough to be seen
+/// if there is any.
 fn forced_height(gathered: &Gathered) -> u64 {
     if gathered.forced.time == 0 {
         return 0;
@@ -180,7 +180,7 @@ struct Shares {
     forced: u64,
     offline: u64,
     ran: u64,
-    /// What is left where there is nothing else.
+    /// The whole height if there is nothing else, and else 0.
     idle: u64,
 }
 

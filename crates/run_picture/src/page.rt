@@ -16,7 +16,7 @@ use crate::tiles::write_tiles;
 use cs_outside::{Failed, Sink};
 use run_segments::RunSegments;
 
-/// How high the page is of a run in which no time passed.
+/// The height of the page of a run in which no time passed.
 const EMPTY_HEIGHT: u64 = 80;
 
 /// Writes the lanes of all siblings.
@@ -58,10 +58,11 @@ fn write_empty<K: Sink>(sink: &mut K, run: &RunSegments) -> Result<(), Failed>
 }
 
 /// Writes the picture of a run: an SVG without scripts and without references to anything else. Each sibling has a lane
-/// over time, and below it how many tasks wait there. Above the lanes it shows when tasks with distinct cookies, and tasks of
-/// distinct thread groups, ran side by side, and below them when something happened at which no time passes. Tasks are
-/// coloured by their cookies, or by their thread groups if no task has a cookie. A legend says what each mark means. What is too narrow to be seen is joined, so the
-/// size of a picture has a bound, however long the run is. It takes no memory. At an `Err` the sink has failed.
+/// over time, and below it how many tasks wait there. Above the lanes it shows when tasks with distinct cookies, and
+/// tasks of distinct thread groups, ran side by side, and below them when something happened at which no time passes.
+/// Tasks are coloured by their cookies, or by their thread groups if no segment shows a cookie. A legend says what each
+/// mark means. What is too narrow to be seen is joined, so the size of a picture has a bound, however long the run is.
+/// It takes no memory. At an `Err` the sink has failed.
 pub fn picture<K: Sink>(run: &RunSegments, sink: &mut K) -> Result<(), Failed>
     ensures faultless { OnOk result (K.faults sink.new ≡ K.faults sink.old) }
     ensures failed { OnErr result (Rose (K.faults sink.old) (K.faults sink.new)) }

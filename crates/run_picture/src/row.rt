@@ -1,5 +1,6 @@
-//! What is shown beside what the siblings did: when tasks that are told apart ran side by side, how many wait on a sibling,
-//! when it had a pending reschedule, and when something happened at which no time passes. Spans that are near are drawn as one, and each is seen.
+//! What is shown beside what the siblings did: when tasks that are told apart ran side by side, how many wait on a
+//! sibling, when it had a pending reschedule, and when something happened at which no time passes. Spans that are near
+//! are drawn as one, and each is seen.
 
 ghost use Rattle.std.specs.Prelude.{◌≡◌, ◌^◌, ◌<◌, ◌≤◌, OnOk, OnErr};
 ghost use Rattle.cs_outside.specs.Device.{Rose};
@@ -19,7 +20,7 @@ use run_segments::{RunSegments, Segment, Waiting, Window};
 /// How high what must be seen is at least, in thousandths of a unit.
 const SEEN: u64 = 2 * UNIT;
 
-/// Of what the spans are.
+/// What the spans are of.
 #[derive(Clone, Copy)]
 enum Row {
     /// The core is exposed.
@@ -47,13 +48,13 @@ struct Sheet {
 /// Spans that are drawn as one, at least one.
 #[derive(Clone, Copy)]
 struct Joined {
-    /// From the begin of the first to the end of the last.
+    /// From the start of the first to the end of the last.
     span: Span,
     /// How many there are.
     count: u64,
     /// How long they are together, in ns.
     time: u64,
-    /// How many tasks wait in one of them at most, 0 if that is not what they tell.
+    /// The most tasks that wait in one of them, 0 if the spans are not of waiting tasks.
     most: u32,
 }
 
@@ -79,7 +80,7 @@ impl Joined {
         self.time == self.span.length()
     }
 
-    /// How high a mark of them is, of this height: their share of the time, and so much that it is seen.
+    /// How high a mark of them is, of this height: their share of the time, and enough to be seen.
     fn height(self, whole: u64) -> u64 {
         if self.is_whole() {
             whole
@@ -99,7 +100,7 @@ impl Joined {
     }
 }
 
-/// Writes the begin of a mark: a rectangle with this foot and this height, in thousandths of a unit.
+/// Writes the start of a mark: a rectangle with this foot and this height, in thousandths of a unit.
 fn write_rect<K: Sink>(sink: &mut K, strip: Strip, foot: u64, height: u64) -> Result<(), Failed>
     ensures faultless { OnOk result (K.faults sink.new ≡ K.faults sink.old) }
     ensures failed { OnErr result (Rose (K.faults sink.old) (K.faults sink.new)) }
@@ -194,7 +195,7 @@ fn write_events<K: Sink>(sink: &mut K, joined: &Joined) -> Result<(), Failed>
     write_pieces(sink, &[Piece::Text("</rect>\n")])
 }
 
-/// Writes the mark of pending reschedules on a lane with this top: an outline of the lane, and a bar above it where there
+/// Writes the mark of pending reschedules on a lane with this top: an outline of the lane, and a bar above it if there
 /// is other time between them.
 fn write_pending_mark<K: Sink>(
     sink: &mut K,
@@ -270,8 +271,8 @@ impl Sheet {
         }
     }
 
-    /// Takes what comes next: joins it to what was put aside if it is near, and else writes that. It answers what is put aside
-    /// then.
+    /// Takes what comes next: joins it to what was put aside if it is near, and else writes that. It answers what is
+    /// put aside then.
     fn take<K: Sink>(
         self,
         sink: &mut K,
@@ -378,7 +379,7 @@ fn sheet_of(run: &RunSegments, row: Row) -> Sheet {
     }
 }
 
-/// Writes the begin of a row above the lanes: its name, whose foot is here, and its frame.
+/// Writes the start of a row above the lanes: its name, whose foot is here, and its frame.
 fn write_row<K: Sink>(
     sink: &mut K,
     name: &str,
@@ -411,8 +412,8 @@ fn write_row<K: Sink>(
     )
 }
 
-/// Writes when tasks that are told apart ran side by side: in a row for cookies and one for thread groups, and for cookies
-/// behind the lanes too. At an `Err` the sink has failed.
+/// Writes when tasks that are told apart ran side by side: in a row for cookies and one for thread groups, and for
+/// cookies behind the lanes too. At an `Err` the sink has failed.
 pub(crate) fn write_side_by_side<K: Sink>(sink: &mut K, run: &RunSegments) -> Result<(), Failed>
     ensures faultless { OnOk result (K.faults sink.new ≡ K.faults sink.old) }
     ensures failed { OnErr result (Rose (K.faults sink.old) (K.faults sink.new)) }

@@ -8,7 +8,7 @@ use crate::span::Span;
 /// A unit of the page: about a pixel.
 pub(crate) const UNIT: u64 = 1_000;
 
-/// From where and how wide something is drawn.
+/// Where something is drawn from, and how wide.
 #[derive(Clone, Copy)]
 pub(crate) struct Strip {
     pub place: u64,
@@ -20,12 +20,12 @@ pub(crate) struct Strip {
 pub(crate) struct Scale {
     /// All time, in ns.
     total: u64,
-    /// How narrow a segment may be that still gets a mark of its own.
+    /// How narrow a segment may be and still get a mark of its own.
     grain: u64,
     ghost small: { grain ≤ 2 ^ 20 },
 }
 
-/// Which part of a whole this is, when the whole counts as much as told, rounded down. Nothing of a whole that is nothing.
+/// Which part of a whole this is, if the whole counts as `counts`, rounded down. Nothing of a whole that is nothing.
 pub(crate) fn part_of(part: u64, whole: u64, counts: u64) -> u64
     ensures { result ≤ counts }
 {
@@ -37,9 +37,9 @@ pub(crate) fn part_of(part: u64, whole: u64, counts: u64) -> u64
 }
 
 impl Scale {
-    /// The scale of a run of a core with this number of siblings. The more lanes there are, the more is joined in each, so
-    /// that a picture has a bound: what is wider than a unit, and than two fifths of a unit for each lane, has a mark of
-    /// its own.
+    /// The scale of a run of a core with this number of siblings. The more lanes there are, the more is joined in each,
+    /// so that a picture has a bound: what is wider than a unit, and than two fifths of a unit for each lane, has a
+    /// mark of its own.
     pub(crate) fn of(total: u64, siblings: u8) -> Scale {
         Scale {
             total,
@@ -76,7 +76,7 @@ impl Scale {
         self.strip(span).width > self.grain
     }
 
-    /// Whether a later span is drawn as one with this one: where there is little between them, and this one is not broad.
+    /// Whether a later span is drawn as one with this one: if there is little between them, and this one is not broad.
     pub(crate) fn joins(self, earlier: Span, later: Span) -> bool {
         let between = self
             .place(later.from)

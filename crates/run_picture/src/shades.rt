@@ -1,4 +1,4 @@
-//! By what the tasks of a run are coloured: by their cookies, or by their thread groups if no cookie is there.
+//! What the tasks of a run are coloured by: their cookies, or their thread groups if no segment shows a cookie.
 
 ghost use Rattle.std.specs.Prelude.{◌^◌, ◌<◌, ◌≤◌};
 
@@ -16,7 +16,7 @@ const MOST_LINES: u64 = 3;
 /// How many cookies or groups the legend can show.
 pub(crate) const MOST_LISTED: u64 = COLUMNS * MOST_LINES;
 
-/// By what the tasks of a run are coloured.
+/// What the tasks of a run are coloured by.
 #[derive(Clone, Copy)]
 pub(crate) struct Shades {
     pub by: By,

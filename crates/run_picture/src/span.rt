@@ -1,13 +1,13 @@
-//! A time from one moment to another, whatever is so in it.
+//! A time from one moment to another, whatever holds in it.
 
 use run_segments::{Segment, Waiting, Window};
 
 /// The time from one moment to another.
 #[derive(Clone, Copy)]
 pub(crate) struct Span {
-    /// The clock at its begin, in ns.
+    /// The clock when it begins, in ns.
     pub from: u64,
-    /// The clock at its end, in ns.
+    /// The clock when it ends, in ns.
     pub to: u64,
 }
 

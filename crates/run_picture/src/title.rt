@@ -1,4 +1,4 @@
-//! The words of a mark: what one reads where the pointer rests on it.
+//! The words of a mark: what one reads when the pointer rests on it.
 
 ghost use Rattle.std.specs.Prelude.{◌≡◌, OnOk, OnErr};
 ghost use Rattle.cs_outside.specs.Device.{Rose};
@@ -100,7 +100,7 @@ pub(crate) fn write_title<K: Sink>(sink: &mut K, segment: &Segment) -> Result<()
     write_span(sink, Span::of_segment(segment))
 }
 
-/// Writes for how long something was so in a mark, where it was.
+/// Writes for how long something was so in a mark, if it was.
 fn write_part<K: Sink>(sink: &mut K, word: &str, time: u64) -> Result<(), Failed>
     ensures faultless { OnOk result (K.faults sink.new ≡ K.faults sink.old) }
     ensures failed { OnErr result (Rose (K.faults sink.old) (K.faults sink.new)) }

@@ -25,7 +25,7 @@ impl TimeUnit {
         }
     }
 
-    /// How many decimals its numbers have where they are exact to the nanosecond.
+    /// How many decimals its numbers have if they are exact to the nanosecond.
     pub(crate) fn decimals(self) -> u32 {
         match self {
             TimeUnit::Nanosecond => 0,
@@ -35,7 +35,7 @@ impl TimeUnit {
         }
     }
 
-    /// Its sign, after the space behind a number.
+    /// Its sign, after the space that follows a number.
     pub(crate) fn sign(self) -> &'static str {
         match self {
             TimeUnit::Nanosecond => " ns",

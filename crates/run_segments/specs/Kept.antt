@@ -14,15 +14,15 @@ pub record Marks : Type 0 where
   pub marks : List Bool
   pub is_known : Bool
 
--- There is a mark for each sibling of a core with this number of them. The marks say on which a task is queued in this room,
--- where that is known.
+-- There is a mark for each sibling of a core with this number of them. The marks say on which a task is queued in this
+-- room, if that is known.
 pub record AreMarksOf (siblings : ℕ) (room : RoomState) (queued : Marks) : Type 0 where
   pub each : length queued.marks ≡ siblings
   pub right : queued.is_known ≡ true → (cpu : ℕ) (none : Bool) → cpu < siblings → slice_index_or queued.marks cpu none ≡ has_queued room cpu
 
 -- ---- the segments
 
--- the segments so far, and the place of the last one of each sibling, 0 where it has none yet
+-- the segments so far, and the place of the last one of each sibling, 0 if it has none yet
 pub record Kept : Type 0 where
   pub segments : List Segment
   pub places : List ℕ
@@ -68,15 +68,15 @@ abbrev pub last_span : Option Span → List Span → Option Span
 last_span past [] = past
 last_span past (span ∷ spans) = last_span (Some span) spans
 
--- A segment stands where it is to: it is of one of these siblings, and lasts no longer than up to the clock of its sibling.
--- One that lasts up to that is the last one of its sibling, and stands at the place of that.
+-- A segment stands where it is to: it is of one of these siblings, and lasts no longer than up to the clock of its
+-- sibling. One that lasts up to that is the last one of its sibling, and stands at the place of that.
 pub record IsPlaced (siblings : ℕ) (clock : ℕ → ℕ) (kept : Kept) (place : ℕ) (segment : Segment) : Type 0 where
   pub cpu : segment.cpu < siblings
   pub ended : segment.to ≤ clock segment.cpu
   pub last : segment.to ≡ clock segment.cpu → place_of kept segment.cpu ≡ place
 
--- The segments stand where they are to, where each sibling is kept up to a clock of its own and a last span, or none. Its
--- last segment goes on with what it does in the next span exactly where no segment of it begins with that.
+-- The segments stand where they are to, if each sibling is kept up to a clock of its own and a last span, or none. Its
+-- last segment goes on with what it does in the next span exactly if no segment of it begins with that.
 pub record ArePlaced (siblings : ℕ) (clock : ℕ → ℕ) (past : ℕ → Option Span) (kept : Kept) : Type 0 where
   pub each : length kept.places ≡ siblings
   pub last : (place : ℕ) (none : Segment) → place < length kept.segments →

@@ -1,4 +1,5 @@
--- Segments: what each sibling did over time. Time passes in advances alone, so what is so before one is so in all of it.
+-- Segments: what each sibling did over time. Time passes in advances alone, so what holds before one holds in all of
+-- it.
 use Rattle.std.specs.Prelude.{◌≡◌, ℕ, ◌<◌, ◌+◌, ◌==◌, ◌&&◌, not, Bool, true, false, List, [], ◌∷◌, ◌++◌, map, filter, if◌then◌else◌, Option, Some, None, unwrap_or}
 use Rattle.std.specs.List.{range_with_len, take_while}
 use Rattle.cs_types.specs.Room.{Opening, RoomState, sibling_of, is_online}
@@ -49,20 +50,20 @@ is_alike one other =
 abbrev pub goes_on : ℕ → Span → Span → Bool
 goes_on cpu past span = is_alike (segment_in past cpu) (segment_in span cpu)
 
--- whether a segment of a sibling begins with a span: at the first one, and where the sibling does not go on from the one
+-- whether a segment of a sibling begins with a span: at the first one, and if the sibling does not go on from the one
 -- before
 abbrev pub begins : Option Span → Span → ℕ → Bool
 begins None span cpu = true
 begins (Some past) span cpu = not (goes_on cpu past span)
 
--- the segment of a sibling that begins with a span, where these come after it: it lasts as long as the sibling goes on
+-- the segment of a sibling that begins with a span, if these come after it: it lasts as long as the sibling goes on
 abbrev pub segment_from : Span → List Span → ℕ → Segment
 segment_from span later cpu =
     let first = segment_in span cpu in
     record first { to = first.to + total_time (take_while (goes_on cpu span) later) }
 
--- the segments that begin in these spans of a core with this number of siblings, after another span or none: by rising
--- begin, and of one begin by rising sibling
+-- the segments that begin in these spans of a core with this number of siblings, after another span or none: by the
+-- time they begin, and those that begin at the same time by rising sibling
 abbrev pub segments_in : ℕ → Option Span → List Span → List Segment
 segments_in siblings past [] = []
 segments_in siblings past (span ∷ later) =

@@ -11,7 +11,7 @@ use std::marker::Model;
 #[derive(Drop)]
 pub(crate) struct KeptSegments {
     segments: Vec<Segment>,
-    /// The place of each sibling's last segment, 0 where it has none yet.
+    /// The place of each sibling's last segment, 0 if it has none yet.
     places: Vec<usize>,
 }
 

@@ -1,5 +1,5 @@
-//! What a run shows over time: its segments, each of which tells what one sibling did without a break, when tasks that are
-//! told apart ran side by side, and how many waited. It is over the contract of a machine alone.
+//! What a run shows over time: its segments, each of which tells what one sibling did without a break, when tasks that
+//! are told apart ran side by side, and how many waited. It stands on the contract of a machine alone.
 #![tactic(auto)]
 
 mod kept;

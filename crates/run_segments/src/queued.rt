@@ -56,7 +56,7 @@ fn mark_queued<R: Room>(room: &R, marks: &mut [bool])
 }
 
 impl Queued {
-    /// Of a core with this number of siblings nothing is known yet.
+    /// Nothing is known yet of a core with this number of siblings.
     pub(crate) fn none(alloc: Global, siblings: u8) -> Result<Self, AllocError>
         ensures { IfOk result (λ queued. (room : RoomState) → AreMarksOf siblings room queued) }
     {

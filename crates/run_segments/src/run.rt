@@ -36,9 +36,9 @@ fn play<R: Room>(room: &mut R, steps: &[Step], recorder: &mut Recorder) -> Resul
     Ok(())
 }
 
-/// Makes the steps, in their order, and then the entries of the end, in a room that has made none yet. It answers what the
-/// run shows over time. What is so right before an advance is so in all of it, and what takes no time is no segment.
-/// Where there is no memory to keep what it shows, the run is broken off.
+/// Makes the steps, in their order, and then the final drain, in a room that has made no step yet. It answers what the
+/// run shows over time. What holds right before an advance holds in all of it, and what takes no time is no segment. If
+/// there is no memory to keep what it shows, the run is broken off.
 pub fn recorded_run<R: Room>(
     alloc: Global,
     room: &mut R,

@@ -9,9 +9,9 @@ use std::marker::Model;
 /// A segment: what one sibling did without a break, from one clock to another. What takes no time is no break.
 #[derive(Clone, Copy)]
 pub struct Segment {
-    /// The clock at its begin, in ns.
+    /// The clock when it begins, in ns.
     pub from: u64,
-    /// The clock at its end, in ns, above its begin.
+    /// The clock when it ends, in ns, later than it begins.
     pub to: u64,
     /// The sibling.
     pub cpu: Cpu,
@@ -25,22 +25,22 @@ pub struct Segment {
     pub pending: bool,
 }
 
-/// A time, from one clock to another, in which two online siblings run tasks that are told apart: with distinct cookies, or
-/// of distinct thread groups.
+/// A time, from one clock to another, in which two online siblings run tasks that are told apart: with distinct
+/// cookies, or of distinct thread groups.
 #[derive(Clone, Copy)]
 pub struct Window {
-    /// The clock at its begin, in ns.
+    /// The clock when it begins, in ns.
     pub from: u64,
-    /// The clock at its end, in ns, above its begin.
+    /// The clock when it ends, in ns, later than it begins.
     pub to: u64,
 }
 
 /// How many tasks wait on one sibling without a change, from one clock to another.
 #[derive(Clone, Copy)]
 pub struct Waiting {
-    /// The clock at its begin, in ns.
+    /// The clock when it begins, in ns.
     pub from: u64,
-    /// The clock at its end, in ns, above its begin.
+    /// The clock when it ends, in ns, later than it begins.
     pub to: u64,
     /// The sibling.
     pub cpu: Cpu,
@@ -81,8 +81,8 @@ impl RunSegments {
         self.total
     }
 
-    /// The segments by rising begin, and of one begin by rising sibling. Those of a sibling follow one another without
-    /// a gap, from 0 to the end.
+    /// The segments by the time they begin, and those that begin at the same time by rising sibling. Those of a
+    /// sibling follow one another without a gap, from 0 to the end.
     pub fn segments(&self) -> &[Segment]
         ensures { result.now ≡ self.now }
     {
@@ -99,14 +99,14 @@ impl RunSegments {
         self.mixed.as_slice()
     }
 
-    /// How many tasks waited on each sibling, by rising begin, and of one begin by rising sibling. If none wait there is
-    /// nothing.
+    /// How many tasks waited on each sibling, by the time from which they did, and for one time by rising sibling.
+    /// Nothing is listed for a time in which none wait.
     pub fn waiting(&self) -> &[Waiting] {
         self.waiting.as_slice()
     }
 
-    /// The clock at the entries at which no time passes, in ns: at all events but an advance. The moments rise, and each
-    /// is there once.
+    /// The clock at the entries at which no time passes, in ns: at all events but an advance. The moments rise, and
+    /// each is there once.
     pub fn moments(&self) -> &[u64] {
         self.moments.as_slice()
     }

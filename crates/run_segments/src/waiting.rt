@@ -42,7 +42,7 @@ fn count_each<R: Room>(room: &R, counts: &mut [u32]) {
 }
 
 impl KeptWaiting {
-    /// Nothing of a core with this number of siblings.
+    /// Nothing yet, for a core with this number of siblings.
     pub(crate) fn none(alloc: Global, siblings: u8) -> Result<Self, AllocError> {
         Ok(KeptWaiting {
             waiting: Vec::new(alloc),
@@ -52,7 +52,7 @@ impl KeptWaiting {
         })
     }
 
-    /// Takes in how many tasks wait on a sibling from one moment to another. None are not kept.
+    /// Takes in how many tasks wait on a sibling from one moment to another. Nothing is kept if none wait.
     fn keep(&mut self, next: Waiting) -> Result<(), AllocError> {
         let cpu = usize::from(next.cpu);
         if next.count == 0 || cpu >= self.places.len() {

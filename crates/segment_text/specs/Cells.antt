@@ -17,7 +17,8 @@ state_word (Runs cookie) = codes "running"
 state_word Idles = codes "idle"
 state_word (ForcedIdle cookie) = codes "idle"
 
--- the cookie of the task that a sibling runs, or that of the core if it is forced idle, 0 for none; else there is none to tell
+-- the cookie of the task that a sibling runs, or that of the core if it is forced idle, 0 for none; else there is none
+-- to tell
 abbrev pub cookie_of : Doing → Option ℕ
 cookie_of Offline = None
 cookie_of (Runs cookie) = Some cookie

@@ -1,5 +1,5 @@
-//! The lines of JSON. With the longest numbers an object is longer than what a `Line` can take, so a sink gets it in two
-//! pieces.
+//! The lines of JSON. With the longest numbers an object is longer than what a `Line` can take, so a sink gets it in
+//! two pieces.
 
 ghost use Rattle.std.specs.Prelude.{◌≡◌, ◌+◌, ◌≤◌, ◌++◌, OnOk, OnErr, length};
 ghost use Rattle.cs_outside.specs.Device.{appended, Rose, WritesPrefix};
@@ -68,8 +68,8 @@ fn write_object<K: Sink>(segment: &Segment, sink: &mut K) -> Result<(), Failed>
     write_all(sink, line.as_bytes())
 }
 
-/// Writes a run's segments as lines of JSON: an object for each segment, with the columns of the table as its members. At
-/// an `Err` the sink has failed, and a prefix of the lines is written. It takes no memory.
+/// Writes a run's segments as lines of JSON: an object for each segment, with the columns of the table as its members.
+/// At an `Err` the sink has failed, and a prefix of the lines is written. It takes no memory.
 pub fn segments_json<K: Sink>(run: &RunSegments, sink: &mut K) -> Result<(), Failed>
     ensures ok { OnOk result (K.written sink.new
         ≡ appended (K.written sink.old) (segments_json_text run.now)) }
