@@ -13,7 +13,8 @@ type Machine = core_state::CoreState<PairGuard>;
 
 type Sink = memory_outside::MemSink;
 
-/// Expects that the command ends so over this text, with the program's guards, and has written this.
+/// Expects that the command ends so over this text, with the program's guards, and has written
+/// this.
 fn expect_output<R: AllocGlobal + Abort>(rt: &R, text: &[u8], wanted: Status, output: &[u8]) {
     let words = words_of(rt.alloc(), &["explain"]).expect(rt, "room");
     let mut source = source_of(rt.alloc(), text, 4096, &[]).expect(rt, "room");
@@ -32,7 +33,8 @@ fn expect_output<R: AllocGlobal + Abort>(rt: &R, text: &[u8], wanted: Status, ou
     assert!(rt; sink.bytes() == output);
 }
 
-/// Expects that the text is bad so, and that the line that tells that, the bad line and the sentence are written.
+/// Expects that the text is bad so, and that the line that tells that, the bad line and the
+/// sentence are written.
 fn expect_explained<R: AllocGlobal + Abort>(
     rt: &R,
     text: &[u8],

@@ -1,4 +1,5 @@
-//! Lines that do not go with those before them: a task that is there already, one without a leader, and one line too many.
+//! Lines that do not go with those before them: a task that is there already, one without a leader,
+//! and one line too many.
 
 use crate::lines::{is_line_feed, is_word, line_at, word_at};
 use crate::number::explain_word;
@@ -33,7 +34,8 @@ pub(crate) fn explain_twice(said: &mut Sentence, text: &[u8], line: &[u8], numbe
     ]);
 }
 
-/// Says why the task of an earlier line, whose pid is the thread group of this line, does not lead that.
+/// Says why the task of an earlier line, whose pid is the thread group of this line, does not lead
+/// that.
 fn explain_leader(said: &mut Sentence, leader: &[u8], before: u64) {
     said.pieces(&[Piece::Text("the task of line "), Piece::Number(before)]);
     if *word_at(leader, 3) == *word_at(leader, 2) {
@@ -119,7 +121,8 @@ pub(crate) fn explain_full_guard(said: &mut Sentence, text: &[u8], line: &[u8], 
     ]);
 }
 
-/// Says that the guard of this teach line is none of those that were handed in, which are this many.
+/// Says that the guard of this teach line is none of those that were handed in, which are this
+/// many.
 pub(crate) fn explain_no_guard(said: &mut Sentence, line: &[u8], guards: u64) {
     explain_word(said, 2, "K", word_at(line, 2));
     if guards == 0 {

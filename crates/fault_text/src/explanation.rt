@@ -1,4 +1,5 @@
-//! The whole of what is said of an input: the line that tells its fault, its first bad line as it stands, and a sentence.
+//! The whole of what is said of an input: the line that tells its fault, its first bad line as it
+//! stands, and a sentence.
 
 ghost use Rattle.std.specs.Prelude.{◌≡◌, ◌≤◌, ◌++◌, length, OnOk, OnErr};
 ghost use Rattle.cs_outside.specs.Device.{appended, Rose, WritesPrefix};
@@ -160,9 +161,10 @@ fn length_explained() -> Sentence {
     said
 }
 
-/// What is wrong with a text that is not played for this reason, where so many guards were handed in: the line that tells
-/// the fault, then the bad line as it stands, and then which word of it is wrong, and what may stand there. A line that is
-/// long, or has bytes that cannot be read, is not shown as it is. `None` if the reason is not in the text.
+/// What is wrong with a text that is not played for this reason, where so many guards were handed
+/// in: the line that tells the fault, then the bad line as it stands, and then which word of it is
+/// wrong, and what may stand there. A line that is long, or has bytes that cannot be read, is not
+/// shown as it is. `None` if the reason is not in the text.
 pub fn stop_explained(text: &[u8], stop: Stop, guards: usize) -> Option<Explanation>
     ensures { Explains (status_of stop) result }
 {

@@ -1,4 +1,5 @@
-//! The words of a line in the form that its first words tell: how many they are, and which of them is wrong.
+//! The words of a line in the form that its first words tell: how many they are, and which of them
+//! is wrong.
 
 ghost use Rattle.std.specs.Prelude.{◌≤◌};
 
@@ -103,7 +104,8 @@ fn wrong_field<'a>(
     None
 }
 
-/// Says which word in the place of a field is wrong, if one is. As many words as this stand before theirs.
+/// Says which word in the place of a field is wrong, if one is. As many words as this stand before
+/// theirs.
 pub(crate) fn explain_fields(
     said: &mut Sentence,
     looked: Looked,
@@ -118,8 +120,9 @@ pub(crate) fn explain_fields(
     }
 }
 
-/// Says that the words of the line are too many or too few for the form, and whether they are. What stands before the name
-/// of the form is `begin`, and as many words as `before` stand before its fields.
+/// Says that the words of the line are too many or too few for the form, and whether they are. What
+/// stands before the name of the form is `begin`, and as many words as `before` stand before its
+/// fields.
 pub(crate) fn explain_length(
     said: &mut Sentence,
     looked: Looked,

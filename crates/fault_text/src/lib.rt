@@ -1,5 +1,6 @@
-//! What is wrong with a text that is no scenario, in words: its first bad line as it stands, which word of it is wrong, and
-//! what may stand there. It is separate from the reading, which tells the line and the kind of the fault alone.
+//! What is wrong with a text that is no scenario, in words: its first bad line as it stands, which
+//! word of it is wrong, and what may stand there. It is separate from the reading, which tells the
+//! line and the kind of the fault alone.
 #![tactic(auto)]
 
 mod counts;

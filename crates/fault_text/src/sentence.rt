@@ -129,7 +129,8 @@ impl Sentence {
         }
     }
 
-    /// What stands before this one, from 0, of so many that are told in a row: `or` before the last.
+    /// What stands before this one, from 0, of so many that are told in a row: `or` before the
+    /// last.
     pub fn before_choice(&mut self, place: usize, count: usize)
         requires { place < count }
     {

@@ -1,4 +1,5 @@
-//! Lines that have none of the forms that may stand in their place, and lines with a number that is wrong.
+//! Lines that have none of the forms that may stand in their place, and lines with a number that is
+//! wrong.
 
 ghost use Rattle.std.specs.Prelude.{◌≤◌};
 
@@ -20,8 +21,8 @@ fn siblings_of(text: &[u8]) -> u64 {
     parse_number(word_at(line_at(text, 2), 2), 1, most).unwrap_or(most)
 }
 
-/// The first of the forms of `BODY` that may stand after the line before this one: no form stands after one that is later in
-/// that order.
+/// The first of the forms of `BODY` that may stand after the line before this one: no form stands
+/// after one that is later in that order.
 fn first_form(text: &[u8], number: u32) -> usize
     ensures { result ≤ 3 }
 {

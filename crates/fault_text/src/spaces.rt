@@ -1,5 +1,5 @@
-//! What is wrong between the words of a line, whatever its form is: blank lines, comments, tabs, spaces, and bytes that are
-//! not seen on a screen.
+//! What is wrong between the words of a line, whatever its form is: blank lines, comments, tabs,
+//! spaces, and bytes that are not seen on a screen.
 
 ghost use Rattle.std.specs.Prelude.{◌≤◌, IfSome};
 

@@ -1,5 +1,6 @@
-//! The forms that a line of a scenario can have: the words that it takes, by the names that they have in docs/formats.md,
-//! and what may stand in the place of each. All sentences are made from these, so a new form is a row more here.
+//! The forms that a line of a scenario can have: the words that it takes, by the names that they
+//! have in docs/formats.md, and what may stand in the place of each. All sentences are made from
+//! these, so a new form is a row more here.
 
 use scenario_text::limits::{
     LEAST_TOP, MOST_ADVANCE, MOST_CALLER, MOST_DEADLINE, MOST_GUARD, MOST_ID, MOST_LIMIT,
@@ -186,7 +187,8 @@ pub(crate) const HEAD: &'static [Form] = &[
     ),
 ];
 
-/// The first word of a step line. What it takes is told by its actor and its event, which have forms of their own.
+/// The first word of a step line. What it takes is told by its actor and its event, which have
+/// forms of their own.
 pub(crate) const STEP: &str = "step";
 
 /// The other lines, in the order in which they may stand.

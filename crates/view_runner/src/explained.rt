@@ -19,8 +19,8 @@ use fault_text::{counts_line, stop_explained};
 use scenario_input::{Status, Stop, read_and_keep, taught};
 use std::alloc::Global;
 
-/// The scenario that the input spells, whose teach lines can all be carried out with these guards. The bytes of the input
-/// are kept. At an `Err` it is told why the input is not played.
+/// The scenario that the input spells, whose teach lines can all be carried out with these guards.
+/// The bytes of the input are kept. At an `Err` it is told why the input is not played.
 fn taken<S: Source, G: Guard>(
     alloc: Global,
     source: &mut S,
@@ -75,7 +75,8 @@ fn write_explanation<K: Sink>(text: &[u8], stop: Stop, guards: usize, sink: &mut
     }
 }
 
-/// Reads the input to its end, and writes what the scenario has that it spells, or why it is not played.
+/// Reads the input to its end, and writes what the scenario has that it spells, or why it is not
+/// played.
 pub(crate) fn explained<S: Source, K: Sink, G: Guard>(
     alloc: Global,
     source: &mut S,
