@@ -6,8 +6,9 @@ ghost use Rattle.std.specs.Prelude.{◌≡◌, ◌^◌, ◌<◌, ◌≤◌, OnOk
 ghost use Rattle.cs_outside.specs.Device.{Rose};
 
 use crate::frame::{
-    EVENTS_HEIGHT, EXPOSED_HEIGHT, EXPOSED_TOP, Frame, LANE_HEIGHT, LANES_WIDTH, LEFT, MIXED_HEIGHT,
-    MIXED_TOP, NAMES_END, PENDING_BAR, PENDING_RIM, WAITING_HEIGHT, WAITING_MOST, WAITING_TOP,
+    EVENTS_HEIGHT, EXPOSED_HEIGHT, EXPOSED_TOP, Frame, LANE_HEIGHT, LANES_WIDTH, LEFT,
+    MIXED_HEIGHT, MIXED_TOP, NAMES_END, PENDING_BAR, PENDING_RIM, WAITING_HEIGHT, WAITING_MOST,
+    WAITING_TOP,
 };
 use crate::piece::{Piece, write_pieces};
 use crate::scale::{Scale, Strip, UNIT, part_of};

@@ -35,10 +35,7 @@ fn write_cookie<K: Sink>(sink: &mut K, cookie: Cookie) -> Result<(), Failed>
     if cookie == 0 {
         return write_pieces(sink, &[Piece::Text(" without a cookie")]);
     }
-    write_pieces(
-        sink,
-        &[Piece::Text(" with cookie "), Piece::Number(cookie)],
-    )
+    write_pieces(sink, &[Piece::Text(" with cookie "), Piece::Number(cookie)])
 }
 
 /// Writes what a sibling does, in words.
