@@ -93,7 +93,8 @@ event_words (Online cpu) = codes "online" ∷ decimal cpu ∷ []
 event_words (Load index) = codes "load" ∷ decimal index ∷ []
 event_words (Unload index) = codes "unload" ∷ decimal index ∷ []
 
--- What the actor does. A sibling schedules itself; the end, which has no number, names the sibling that schedules.
+-- What the actor does. A sibling schedules itself; the final drain, which has no number, names the sibling that
+-- schedules.
 abbrev pub deed_words : Actor → Event → List Word
 deed_words End (Resched cpu) = codes "resched" ∷ decimal cpu ∷ []
 deed_words actor event = event_words event

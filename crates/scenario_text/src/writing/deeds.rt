@@ -12,7 +12,8 @@ impl Places {
     #[inline(always)]
     pub(super) fn made(&mut self, at: usize, actor: Actor, event: &Event) -> usize
         requires { at + 76 ≤ line_bytes }
-        ensures text { take result self.new.bytes ≡ take at self.old.bytes ++ spaced (made_words actor event.now) }
+        ensures text { take result self.new.bytes
+            ≡ take at self.old.bytes ++ spaced (made_words actor event.now) }
         ensures longest { result ≤ at + 76 }
     {
         let at = self.actor(at, actor);
@@ -33,11 +34,12 @@ impl Places {
         }
     }
 
-    /// What the actor does. The end names the sibling that schedules.
+    /// What the actor does. The final drain names the sibling that schedules.
     #[inline(always)]
     fn deed(&mut self, at: usize, actor: Actor, event: &Event) -> usize
         requires { at + 71 ≤ line_bytes }
-        ensures text { take result self.new.bytes ≡ take at self.old.bytes ++ spaced (deed_words actor event.now) }
+        ensures text { take result self.new.bytes
+            ≡ take at self.old.bytes ++ spaced (deed_words actor event.now) }
         ensures longest { result ≤ at + 71 }
     {
         match *event {
@@ -64,7 +66,8 @@ impl Places {
     #[inline(always)]
     fn fork(&mut self, at: usize, caller: Pid, thread: bool) -> usize
         requires { at + 23 ≤ line_bytes }
-        ensures text { take result self.new.bytes ≡ take at self.old.bytes ++ spaced (event_words (Event.Fork caller thread)) }
+        ensures text { take result self.new.bytes
+            ≡ take at self.old.bytes ++ spaced (event_words (Event.Fork caller thread)) }
         ensures longest { result ≤ at + 23 }
     {
         let at = self.pid(at, "fork ", caller);
@@ -78,7 +81,8 @@ impl Places {
     #[inline(always)]
     fn prctl(&mut self, at: usize, caller: Pid, ask: &Ask) -> usize
         requires { at + 71 ≤ line_bytes }
-        ensures text { take result self.new.bytes ≡ take at self.old.bytes ++ spaced (event_words (Event.Prctl caller ask.now)) }
+        ensures text { take result self.new.bytes
+            ≡ take at self.old.bytes ++ spaced (event_words (Event.Prctl caller ask.now)) }
         ensures longest { result ≤ at + 71 }
     {
         let at = self.pid(at, "prctl ", caller);
@@ -89,7 +93,8 @@ impl Places {
     #[inline(always)]
     fn ask(&mut self, at: usize, ask: &Ask) -> usize
         requires { at + 54 ≤ line_bytes }
-        ensures text { take result self.new.bytes ≡ take at self.old.bytes ++ spaced (ask_words ask.now) }
+        ensures text { take result self.new.bytes
+            ≡ take at self.old.bytes ++ spaced (ask_words ask.now) }
         ensures longest { result ≤ at + 54 }
     {
         let at = self.medium(at, ask.cmd);
@@ -106,7 +111,8 @@ impl Places {
     #[inline(never)]
     fn set_sched(&mut self, at: usize, pid: Pid, policy: &Policy) -> usize
         requires { at + 43 ≤ line_bytes }
-        ensures text { take result self.new.bytes ≡ take at self.old.bytes ++ spaced (event_words (Event.SetSched pid policy.now)) }
+        ensures text { take result self.new.bytes
+            ≡ take at self.old.bytes ++ spaced (event_words (Event.SetSched pid policy.now)) }
         ensures longest { result ≤ at + 43 }
     {
         let at = self.pid(at, "setsched ", pid);

@@ -12,15 +12,15 @@ use itoa::write_digits;
 /// How many bytes a line can take: as many as the longest entry has, with its line feed.
 pub(super) const LINE_BYTES: usize = 152;
 
-/// The places of a line. What stands behind its end means nothing.
+/// The places of a line. What stands after its end means nothing.
 #[derive(Drop)]
 pub(super) struct Places {
     pub(super) bytes: [u8; LINE_BYTES],
 }
 
 impl Places {
-    /// A text as it is. Byte by byte: where the text is known, as it is at each call, that is a
-    /// store of two or three words, and a copy would be tested for overlap first.
+    /// A text as it is. Byte by byte: if the text is known, as it is at each call, that is a store
+    /// of two or three words, and a copy would be tested for overlap first.
     #[inline(always)]
     pub(super) fn text(&mut self, at: usize, text: &str) -> usize
         requires { at + length text.now ≤ line_bytes }
@@ -38,7 +38,8 @@ impl Places {
     #[inline(always)]
     pub(super) fn pid(&mut self, at: usize, before: &str, pid: Pid) -> usize
         requires { at + length before.now + 10 ≤ line_bytes }
-        ensures text { take result self.new.bytes ≡ take at self.old.bytes ++ (before.now ++ decimal pid) }
+        ensures text { take result self.new.bytes
+            ≡ take at self.old.bytes ++ (before.now ++ decimal pid) }
         ensures longest { result ≤ at + length before.now + 10 }
     {
         let at = self.text(at, before);
@@ -49,7 +50,8 @@ impl Places {
     #[inline(always)]
     pub(super) fn wide(&mut self, at: usize, before: &str, number: u64) -> usize
         requires { at + length before.now + 20 ≤ line_bytes }
-        ensures text { take result self.new.bytes ≡ take at self.old.bytes ++ (before.now ++ decimal number) }
+        ensures text { take result self.new.bytes
+            ≡ take at self.old.bytes ++ (before.now ++ decimal number) }
         ensures longest { result ≤ at + length before.now + 20 }
     {
         let at = self.text(at, before);
@@ -60,7 +62,8 @@ impl Places {
     #[inline(always)]
     pub(super) fn small(&mut self, at: usize, before: &str, number: u8) -> usize
         requires { at + length before.now + 3 ≤ line_bytes }
-        ensures text { take result self.new.bytes ≡ take at self.old.bytes ++ (before.now ++ decimal number) }
+        ensures text { take result self.new.bytes
+            ≡ take at self.old.bytes ++ (before.now ++ decimal number) }
         ensures longest { result ≤ at + length before.now + 3 }
     {
         let at = self.text(at, before);
@@ -104,7 +107,8 @@ impl Places {
     #[inline(always)]
     pub(super) fn signed(&mut self, at: usize, number: i32) -> usize
         requires { at + 11 ≤ line_bytes }
-        ensures text { take result self.new.bytes ≡ take at self.old.bytes ++ signed_decimal number }
+        ensures text { take result self.new.bytes
+            ≡ take at self.old.bytes ++ signed_decimal number }
         ensures longest { result ≤ at + 11 }
     {
         if number >= 0 {
@@ -156,7 +160,7 @@ impl Places {
         self.counted(at, count, number)
     }
 
-    /// A number that has so many digits.
+    /// A number that has this many digits.
     #[inline(always)]
     fn counted(&mut self, at: usize, count: usize, number: u64) -> usize
         requires { (count ≡ length (decimal number)) × (at + count ≤ line_bytes) }

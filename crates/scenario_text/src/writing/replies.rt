@@ -12,7 +12,8 @@ impl Places {
     #[inline(always)]
     pub(super) fn reply(&mut self, at: usize, reply: &Reply) -> usize
         requires { at + 73 ≤ line_bytes }
-        ensures text { take result self.new.bytes ≡ take at self.old.bytes ++ spaced (reply_words reply.now) }
+        ensures text { take result self.new.bytes
+            ≡ take at self.old.bytes ++ spaced (reply_words reply.now) }
         ensures longest { result ≤ at + 73 }
     {
         match *reply {
@@ -49,7 +50,8 @@ impl Places {
     #[inline(always)]
     fn stolen(&mut self, at: usize, pid: Pid, from: Cpu) -> usize
         requires { at + 25 ≤ line_bytes }
-        ensures text { take result self.new.bytes ≡ take at self.old.bytes ++ spaced (reply_words (Reply.Stole pid from)) }
+        ensures text { take result self.new.bytes
+            ≡ take at self.old.bytes ++ spaced (reply_words (Reply.Stole pid from)) }
         ensures longest { result ≤ at + 25 }
     {
         let at = self.pid(at, "Stole ", pid);
@@ -60,7 +62,8 @@ impl Places {
     #[inline(always)]
     fn left(&mut self, at: usize, how: &str, pid: Pid, pick: &Pick) -> usize
         requires { at + length how.now + 67 ≤ line_bytes }
-        ensures text { take result self.new.bytes ≡ take at self.old.bytes ++ (how.now ++ spaced (decimal pid ∷ pick_words pick.now)) }
+        ensures text { take result self.new.bytes
+            ≡ take at self.old.bytes ++ (how.now ++ spaced (decimal pid ∷ pick_words pick.now)) }
         ensures longest { result ≤ at + length how.now + 67 }
     {
         let at = self.pid(at, how, pid);
@@ -71,7 +74,8 @@ impl Places {
     #[inline(always)]
     fn pick(&mut self, at: usize, pick: &Pick) -> usize
         requires { at + 56 ≤ line_bytes }
-        ensures text { take result self.new.bytes ≡ take at self.old.bytes ++ spaced (pick_words pick.now) }
+        ensures text { take result self.new.bytes
+            ≡ take at self.old.bytes ++ spaced (pick_words pick.now) }
         ensures longest { result ≤ at + 56 }
     {
         let at = self.kind(at, pick.kind);
