@@ -198,8 +198,7 @@ pub const REFUSED_MOVES: Script = script!(
     ],
 );
 
-/// A running task that is given the policy that it has goes behind the other of its priority, and begins a
-/// new slice.
+/// A running task that is given the policy that it has goes behind the other of its priority.
 pub const SAME_POLICY: Script = script!(
     "SAME_POLICY",
     2,

@@ -58,7 +58,7 @@ impl Entry {
                 By::Cookie =>
                     "A task without a cookie runs. Tasks with a cookie are drawn in the look of their cookie, as listed above.",
                 By::Group =>
-                    "A task runs. No task has a cookie, so each is drawn in the look of its thread group, as listed above.",
+                    "A task runs. This run shows no cookie, so each is drawn in the look of its thread group, as listed above.",
             },
             Entry::Forced =>
                 "Forced idle: a task waits on this sibling, but has not the cookie that the core is given to. The hatch has the colour of that cookie, grey for none.",
