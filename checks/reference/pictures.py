@@ -361,17 +361,36 @@ def waits_of(data):
     return waits
 
 
+def nanoseconds(text):
+    """A time as the picture tells it, in ns."""
+    number, unit = text.split(' ')
+    whole, _, rest = number.partition('.')
+    digits = {'s': 9, 'ms': 6, 'us': 3, 'ns': 0}[unit]
+    return int(whole) * 10 ** digits + int(rest.ljust(digits, '0') or 0)
+
+
 def need_waiting(marks, run, waits, cpu):
-    """Raises Wrong where the marks below a lane do not say how many tasks wait, or a mark tells of none."""
-    places = [(run.place(begin), run.place(end), count) for begin, end, count in waits]
-    for begin, end, count in places:
-        if not is_shown([span for _, span in marks], begin, end):
+    """Raises Wrong where the marks below a lane do not say how many tasks wait, and when. A mark names its time, and the most
+    that wait in it."""
+    told_time = 0
+    for begin, end, _ in waits:
+        if not is_shown([span for _, span in marks], run.place(begin), run.place(end)):
             raise Wrong('tasks that wait on s%d are not shown, from %d to %d' % (cpu, begin, end))
-    for words, (begin, end) in marks:
-        most = max((count for first, last, count in places if first < end and begin < last or begin <= first == last <= end), default=0)
-        said = re.match(r's%d, tasks that wait(?: at most)?: ([0-9]+), ' % cpu, words)
-        if not said or int(said[1]) != most:
-            raise Wrong('%d tasks wait on s%d from %d to %d, and not: %s' % (most, cpu, begin, end, words))
+    for words, (place, foot) in marks:
+        said = re.match(r's%d, tasks that wait( at most)?: ([0-9]+), (.*) to (.*) \(' % cpu, words)
+        if not said:
+            raise Wrong('a mark of waiting tasks on s%d says: %s' % (cpu, words))
+        begin, end = nanoseconds(said[3]), nanoseconds(said[4])
+        inside = [wait for wait in waits if wait[0] < end and begin < wait[1]]
+        if not inside or inside[0][0] < begin or inside[-1][1] > end or max(count for _, _, count in inside) != int(said[2]):
+            raise Wrong('not so many wait on s%d: %s' % (cpu, words))
+        if not said[1] and len({count for _, _, count in inside}) > 1:
+            raise Wrong('several counts on s%d: %s' % (cpu, words))
+        if (place, foot) != seen(run.place(begin), run.place(end)):
+            raise Wrong('a mark of waiting tasks on s%d at another place: %s' % (cpu, words))
+        told_time += len(inside)
+    if told_time != len(waits):
+        raise Wrong('%d of %d times in which tasks wait on s%d are told' % (told_time, len(waits), cpu))
 
 
 def compare(text, run, waits):
