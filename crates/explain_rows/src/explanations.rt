@@ -56,10 +56,11 @@ fn expect_explained<R: AllocGlobal + Abort>(
     expect_output(rt, text, wanted, &output);
 }
 
-/// Expects so much of each of these mistakes, behind this text.
+/// Expects that of each of these mistakes, after this text.
 fn expect_all<R: AllocGlobal + Abort>(rt: &R, before: &str, mistakes: &[Mistake]) {
     for (rest, line, kind, shown, sentence) in mistakes {
-        let text = joined(rt.alloc(), &[before, rest]).expect(rt, "room");
+        let mut text = joined(rt.alloc(), &[before]).expect(rt, "room");
+        text.extend_from_slice(rest.as_bytes()).expect(rt, "room");
         let wanted = Status::BadScenario {
             line: *line,
             kind: *kind,
