@@ -75,36 +75,38 @@ impl<A> CookieQueue<A> {
     /// Puts a task in, which must have a cookie (`sched_core_enqueue`). None may have its cookie,
     /// class, rank and stamp.
     #[inline(always)]
-    pub fn put<L: Ledger>(&mut self, task: Queued, steps: &mut Steps<L>)
+    pub fn put<L: Ledger>(&mut self, task: Queued, comparisons: &mut Steps<L>)
         requires spare { 0 < self.old.spare }
         requires ranked { IsRanked task }
         requires cookie { task.cookie ≢ 0 }
         requires free { map.get self.old.tasks (spot_of task) ≡ None }
         ensures tasks { self.new.tasks ≡ map.insert self.old.tasks (spot_of task) task.pid }
         ensures spare { self.new.spare + 1 ≡ self.old.spare }
-        ensures counted { steps.new ≤ steps.old + most_comparisons (map.len self.old.tasks) }
+        ensures counted { comparisons.new
+            ≤ comparisons.old + most_comparisons (map.len self.old.tasks) }
     {
-        self.tree.insert(key_of(&task), task.pid, steps);
+        self.tree.insert(key_of(&task), task.pid, comparisons);
     }
 
     /// Takes a task out (`sched_core_dequeue`). `false` comes exactly if it is not there, and then
     /// nothing changes.
     #[inline(always)]
-    pub fn take<L: Ledger>(&mut self, task: &Queued, steps: &mut Steps<L>) -> bool
+    pub fn take<L: Ledger>(&mut self, task: &Queued, comparisons: &mut Steps<L>) -> bool
         requires ranked { IsRanked task.now }
         requires same { IfSome (map.get self.old.tasks (spot_of task.now))
             (λ pid. pid ≡ task.now.pid) }
         ensures found { result ≡ map.contains_key self.old.tasks (spot_of task.now) }
         ensures tasks { self.new.tasks ≡ map.remove self.old.tasks (spot_of task.now) }
         ensures spare { self.new.spare ≡ self.old.spare + (if result then 1 else 0) }
-        ensures counted { steps.new ≤ steps.old + most_comparisons (map.len self.old.tasks) }
+        ensures counted { comparisons.new
+            ≤ comparisons.old + most_comparisons (map.len self.old.tasks) }
     {
-        self.tree.remove(&key_of(task), steps)
+        self.tree.remove(&key_of(task), comparisons)
     }
 
     /// The task, which must be there, gets another rank, at which none may have its cookie, class and stamp.
     #[inline(always)]
-    pub fn set_rank<L: Ledger>(&mut self, task: &Queued, rank: u128, steps: &mut Steps<L>)
+    pub fn set_rank<L: Ledger>(&mut self, task: &Queued, rank: u128, comparisons: &mut Steps<L>)
         requires there { IsTrue (map.contains_key self.old.tasks (spot_of task.now)) }
         requires free { map.get (map.remove self.old.tasks (spot_of task.now))
             (spot_of (record task.now { rank = rank })) ≡ None }
@@ -112,10 +114,12 @@ impl<A> CookieQueue<A> {
             ≡ map.insert (map.remove self.old.tasks (spot_of task.now))
             (spot_of (record task.now { rank = rank })) task.now.pid }
         ensures spare { self.new.spare ≡ self.old.spare }
-        ensures counted { steps.new ≤ steps.old + most_comparisons (map.len self.old.tasks)
+        ensures counted { comparisons.new
+            ≤ comparisons.old + most_comparisons (map.len self.old.tasks)
             + most_comparisons (map.len (map.remove self.old.tasks (spot_of task.now))) }
     {
-        self.tree.set_rank(&key_of(task), rank, task.pid, steps);
+        self.tree
+            .set_rank(&key_of(task), rank, task.pid, comparisons);
     }
 
     /// Every task leaves.
@@ -127,19 +131,20 @@ impl<A> CookieQueue<A> {
     }
 
     /// Each task gets the rank and the stamp that it has now, with which they stand in the same order.
-    pub fn renew<R: Renewal, L: Ledger>(&mut self, renewal: &R, steps: &mut Steps<L>)
+    pub fn renew<R: Renewal, L: Ledger>(&mut self, renewal: &R, comparisons: &mut Steps<L>)
         requires rising { IsTrue (map.is_sorted spot_cmp
             (list.map (respotted (R.at renewal.now)) (map.entries self.old.tasks))) }
         ensures entries { map.entries self.new.tasks
             ≡ list.map (respotted (R.at renewal.now)) (map.entries self.old.tasks) }
         ensures spare { self.new.spare ≡ self.old.spare }
-        ensures counted { steps.new ≤ steps.old + most_comparisons (map.len self.old.tasks) }
+        ensures counted { comparisons.new
+            ≤ comparisons.old + most_comparisons (map.len self.old.tasks) }
     {
-        self.tree.renew(renewal, steps);
+        self.tree.renew(renewal, comparisons);
     }
 
     /// The highest task with the cookie (`sched_core_find`, kernel/sched/core.c). `None` exactly if no task has it.
-    pub fn first_of<L: Ledger>(&self, cookie: Cookie, steps: &mut Steps<L>) -> Option<Queued>
+    pub fn first_of<L: Ledger>(&self, cookie: Cookie, comparisons: &mut Steps<L>) -> Option<Queued>
         ensures first { result ≡ first_with self.now.tasks cookie }
 
         // If these are the tasks with cookies of some of a room, it is the first of those with the cookie.
@@ -148,14 +153,15 @@ impl<A> CookieQueue<A> {
             result
             ≡ option_map queued_of (first_of (list.filter (λ task. task.cookie == cookie) tasks)) }
 
-        ensures counted { steps.new ≤ steps.old + most_comparisons (map.len self.now.tasks) }
+        ensures counted { comparisons.new
+            ≤ comparisons.old + most_comparisons (map.len self.now.tasks) }
     {
-        queued_with(cookie, self.tree.first_in(cookie, steps))
+        queued_with(cookie, self.tree.first_in(cookie, comparisons))
     }
 
     /// The highest task with the cookie of this one that is lower than it (`sched_core_next`,
     /// kernel/sched/core.c). `None` exactly if no task with the cookie is lower.
-    pub fn next_of<L: Ledger>(&self, task: &Queued, steps: &mut Steps<L>) -> Option<Queued>
+    pub fn next_of<L: Ledger>(&self, task: &Queued, comparisons: &mut Steps<L>) -> Option<Queued>
         requires { IsRanked task.now }
         ensures next { result ≡ next_with self.now.tasks task.now }
 
@@ -168,9 +174,10 @@ impl<A> CookieQueue<A> {
             result ≡ option_map queued_of (first_of (list.filter
             (λ other. (other.cookie == above.cookie) && goes_before above other) tasks)) }
 
-        ensures counted { steps.new ≤ steps.old + most_comparisons (map.len self.now.tasks) }
+        ensures counted { comparisons.new
+            ≤ comparisons.old + most_comparisons (map.len self.now.tasks) }
     {
-        queued_with(task.cookie, self.tree.next(&key_of(task), steps))
+        queued_with(task.cookie, self.tree.next(&key_of(task), comparisons))
     }
 
     /// How many tasks there are.

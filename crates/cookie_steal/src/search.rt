@@ -31,14 +31,14 @@ fn first_with<Q: SiblingQueue, L: Ledger>(
     cookie: Cookie,
     table: &TaskTable,
     cpu: Cpu,
-    steps: &mut Steps<L>,
+    comparisons: &mut Steps<L>,
 ) -> Option<Task>
     requires { MayFind (Q.holds lane.now.queue) cpu table.now cookie }
     ensures answer { result ≡ first_of (with_cookie cookie (queued_among table.now.tasks cpu)) }
-    ensures counted { steps.new ≤ steps.old
+    ensures counted { comparisons.new ≤ comparisons.old
         + Q.most_compared (length (queued_among table.now.tasks cpu)) }
 {
-    let first = lane.queue.first_with(cookie, table, cpu, steps)?;
+    let first = lane.queue.first_with(cookie, table, cpu, comparisons)?;
     task_of(table, first.pid)
 }
 
@@ -49,7 +49,7 @@ fn first_to_steal<Q: SiblingQueue, L: Ledger>(
     table: &TaskTable,
     thief: Cpu,
     source: Cpu,
-    steps: &mut Steps<L>,
+    comparisons: &mut Steps<L>,
 ) -> Option<Task>
     requires cookie { core.now.cookie ≢ 0 }
     requires source { IsSourceOf thief source (core.now, table.now) }
@@ -57,16 +57,16 @@ fn first_to_steal<Q: SiblingQueue, L: Ledger>(
         result ≡ first_of (filter (may_steal (sibling_of room thief) (sibling_of room source))
         (queued_with room room.core_cookie source)) }
     ensures counted { ComparesFor (length table.now.tasks + 1)
-        (core.now, table.now) steps.old steps.new }
+        (core.now, table.now) comparisons.old comparisons.new }
 {
     let idle = &core.lanes[thief as usize];
     let from = &core.lanes[source as usize];
-    let mut next = first_with(from, core.cookie, table, source, steps);
+    let mut next = first_with(from, core.cookie, table, source, comparisons);
     while let Some(task) = next {
         if may_steal(idle, from, &task) {
             return Some(task);
         }
-        next = from.queue.next_with(&task, table, source, steps);
+        next = from.queue.next_with(&task, table, source, comparisons);
     }
     None
 }
@@ -79,16 +79,16 @@ pub fn stolen<Q: SiblingQueue, L: Ledger>(
     table: &TaskTable,
     thief: Cpu,
     source: Cpu,
-    steps: &mut Steps<L>,
+    comparisons: &mut Steps<L>,
 ) -> Option<Task>
     requires { IsSourceOf thief source (core.now, table.now) }
     ensures stolen { (beside : Beside) →
         result ≡ stolen (room_of beside (core.now, table.now)) thief }
     ensures counted { ComparesFor (length table.now.tasks + 1)
-        (core.now, table.now) steps.old steps.new }
+        (core.now, table.now) comparisons.old comparisons.new }
 {
     if core.cookie == 0 || core.lanes[thief as usize].run.is_some() {
         return None;
     }
-    first_to_steal(core, table, thief, source, steps)
+    first_to_steal(core, table, thief, source, comparisons)
 }

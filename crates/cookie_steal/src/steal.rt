@@ -45,15 +45,15 @@ fn is_left_idle<Q: SiblingQueue, L: Ledger>(
     core: &Core<Q>,
     table: &TaskTable,
     cpu: Cpu,
-    steps: &mut Steps<L>,
+    comparisons: &mut Steps<L>,
 ) -> bool
     requires { AgreesAt cpu (core.now, table.now) }
     ensures idle { (beside : Beside) → let room = room_of beside (core.now, table.now) in
         result ≡ (is_none (first_on room cpu) && is_none (sibling_of room cpu).run
         && not (room.forced == 0)) }
-    ensures counted { ComparesFor 1 (core.now, table.now) steps.old steps.new }
+    ensures counted { ComparesFor 1 (core.now, table.now) comparisons.old comparisons.new }
 {
-    core.first_on(table, cpu, steps).is_none()
+    core.first_on(table, cpu, comparisons).is_none()
         && core.lanes[cpu as usize].run.is_none()
         && core.account.count() != 0
 }
@@ -65,19 +65,19 @@ fn steal<Q: SiblingQueue, L: Ledger>(
     thief: Cpu,
     source: Cpu,
     task: Task,
-    steps: &mut Steps<L>,
+    comparisons: &mut Steps<L>,
 )
     requires { MaySteal thief source (core.old, table.old) task }
     ensures touches { Touches 2 (core.old, table.old) (core.new, table.new)
         (λ room. steal room thief task) }
-    ensures counted { ComparesFor 3 (core.old, table.old) steps.old steps.new }
+    ensures counted { ComparesFor 3 (core.old, table.old) comparisons.old comparisons.new }
 {
     let moved = core.moved_to(thief, task);
     core.touch();
-    core.enqueue(table, moved, steps);
+    core.enqueue(table, moved, comparisons);
     core.set_place(thief, 0);
     core.flag(thief, true);
-    let idles = is_left_idle(core, table, source, steps);
+    let idles = is_left_idle(core, table, source, comparisons);
     core.flag(source, idles);
 }
 
@@ -102,20 +102,20 @@ pub fn try_steal<Q: SiblingQueue, L: Ledger>(
     core: &mut Core<Q>,
     table: &mut TaskTable,
     cpu: Cpu,
-    steps: &mut Steps<L>,
+    comparisons: &mut Steps<L>,
 ) -> Try
     requires { MayTry cpu (core.old, table.old) }
     ensures tries { TriesToSteal (core.old, table.old) (core.new, table.new) cpu result }
     ensures counted { ComparesFor (length table.old.tasks + 4)
-        (core.old, table.old) steps.old steps.new }
+        (core.old, table.old) comparisons.old comparisons.new }
 {
     if core.lanes[cpu as usize].place == 0 {
         return Try::NoBalance;
     }
     let source = source_of(core, cpu);
-    match stolen(core, table, cpu, source, steps) {
+    match stolen(core, table, cpu, source, comparisons) {
         Some(task) => {
-            steal(core, table, cpu, source, task, steps);
+            steal(core, table, cpu, source, task, comparisons);
             Try::Stole {
                 pid: task.spec.pid,
                 from: source,

@@ -92,16 +92,16 @@ pub fn wake_at_home<Q: SiblingQueue, L: Ledger>(
     table: &mut TaskTable,
     task: Task,
     now: u64,
-    steps: &mut Steps<L>,
+    comparisons: &mut Steps<L>,
 )
     requires { MayWakeAtHome now (core.old, table.old) task }
     ensures touches { TouchesAt now 1 (core.old, table.old) (core.new, table.new)
         (λ room. queue_at_home room task) }
-    ensures counted { ComparesFor 1 (core.old, table.old) steps.old steps.new }
+    ensures counted { ComparesFor 1 (core.old, table.old) comparisons.old comparisons.new }
 {
     let mut fresh = task;
     refresh(core, &mut fresh, now);
     let preempts = preempts(core, table, &fresh);
-    core.wake(table, &fresh, steps);
+    core.wake(table, &fresh, comparisons);
     core.flag(task.home, preempts);
 }

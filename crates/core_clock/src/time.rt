@@ -32,12 +32,12 @@ fn grow_on<Q: SiblingQueue, L: Ledger>(
     table: &mut TaskTable,
     cpu: Cpu,
     delta: u64,
-    steps: &mut Steps<L>,
+    comparisons: &mut Steps<L>,
 )
     requires at { AgreesAt cpu (core.old, table.old) }
     requires can { CanGrow delta table.old.tasks }
     ensures changes { Changes (core.old, table.old) (core.new, table.new) (with_grown cpu delta) }
-    ensures counted { ComparesFor 2 (core.old, table.old) steps.old steps.new }
+    ensures counted { ComparesFor 2 (core.old, table.old) comparisons.old comparisons.new }
 {
     let Some(task) = core.runner(table, cpu) else {
         return;
@@ -50,7 +50,7 @@ fn grow_on<Q: SiblingQueue, L: Ledger>(
         }
         Policy::Fair(nice) => {
             let vtime = task.vtime + grow(delta, nice);
-            core.set_vtime_in_queue(table, task, vtime, steps);
+            core.set_vtime_in_queue(table, task, vtime, comparisons);
             table.set_vtime(pid, vtime);
         }
         _ => {}
@@ -62,16 +62,16 @@ fn grow_tasks<Q: SiblingQueue, L: Ledger>(
     core: &mut Core<Q>,
     table: &mut TaskTable,
     delta: u64,
-    steps: &mut Steps<L>,
+    comparisons: &mut Steps<L>,
 )
     requires { MayGrow delta (core.old, table.old) }
     ensures changes { Changes (core.old, table.old) (core.new, table.new)
         (λ room. record room { tasks = map (grown room delta) room.tasks }) }
     ensures counted { ComparesFor (2 * length core.old.lanes.items)
-        (core.old, table.old) steps.old steps.new }
+        (core.old, table.old) comparisons.old comparisons.new }
 {
     for cpu in 0..core.lanes.len() {
-        grow_on(core, table, cpu as u8, delta, steps);
+        grow_on(core, table, cpu as u8, delta, comparisons);
     }
 }
 
@@ -91,7 +91,7 @@ fn renew_siblings<Q: SiblingQueue, L: Ledger>(
     core: &mut Core<Q>,
     table: &TaskTable,
     delta: u64,
-    steps: &mut Steps<L>,
+    comparisons: &mut Steps<L>,
 )
     requires agree { Agree (core.old, table.now) }
     requires ran { All (λ sibling. sibling.ran + delta < 2 ^ 64)
@@ -99,12 +99,12 @@ fn renew_siblings<Q: SiblingQueue, L: Ledger>(
     ensures changes { Changes (core.old, table.now) (core.new, table.now)
         (λ room. with_leasts (with_ages delta room)) }
     ensures counted { ComparesFor (length core.old.lanes.items)
-        (core.old, table.now) steps.old steps.new }
+        (core.old, table.now) comparisons.old comparisons.new }
 {
     for cpu in 0..core.lanes.len() {
         let lane = &mut core.lanes[cpu];
         lane.ran += delta;
-        if let Some(smallest) = lane.queue.smallest_vtime(table, cpu as u8, steps) {
+        if let Some(smallest) = lane.queue.smallest_vtime(table, cpu as u8, comparisons) {
             raise(&mut lane.least, smallest);
         }
     }
@@ -116,15 +116,15 @@ pub fn advance<Q: SiblingQueue, L: Ledger>(
     table: &mut TaskTable,
     delta: u64,
     now: u64,
-    steps: &mut Steps<L>,
+    comparisons: &mut Steps<L>,
 ) -> u64
     requires { MayAdvance now delta (core.old, table.old) }
     ensures advances { Advances now delta (core.old, table.old) (core.new, table.new) result }
     ensures counted { ComparesFor (3 * length core.old.lanes.items)
-        (core.old, table.old) steps.old steps.new }
+        (core.old, table.old) comparisons.old comparisons.new }
 {
-    grow_tasks(core, table, delta, steps);
-    renew_siblings(core, table, delta, steps);
+    grow_tasks(core, table, delta, comparisons);
+    renew_siblings(core, table, delta, comparisons);
     now + delta
 }
 
@@ -144,17 +144,17 @@ fn rotates<Q: SiblingQueue, L: Ledger>(
     table: &TaskTable,
     cpu: Cpu,
     task: &Task,
-    steps: &mut Steps<L>,
+    comparisons: &mut Steps<L>,
 ) -> bool
     requires { MayAsk cpu (core.now, table.now) task.now }
     ensures rotates { (beside : Beside) →
         result ≡ rotates (room_of beside (core.now, table.now)) cpu task.now }
-    ensures counted { ComparesFor 1 (core.now, table.now) steps.old steps.new }
+    ensures counted { ComparesFor 1 (core.now, table.now) comparisons.old comparisons.new }
 {
     has_used_slice(task)
         && core.lanes[cpu as usize]
             .queue
-            .has_peer(task, table, cpu, steps)
+            .has_peer(task, table, cpu, comparisons)
 }
 
 /// Whether another fair task on the sibling has a smaller virtual time than the running fair one.
@@ -163,19 +163,19 @@ fn is_overtaken<Q: SiblingQueue, L: Ledger>(
     table: &TaskTable,
     cpu: Cpu,
     task: &Task,
-    steps: &mut Steps<L>,
+    comparisons: &mut Steps<L>,
 ) -> bool
     requires { MayAsk cpu (core.now, table.now) task.now }
     ensures overtaken { (beside : Beside) →
         result ≡ is_overtaken (room_of beside (core.now, table.now)) cpu task.now }
-    ensures counted { ComparesFor 1 (core.now, table.now) steps.old steps.new }
+    ensures counted { ComparesFor 1 (core.now, table.now) comparisons.old comparisons.new }
 {
     if !is_fair(task) {
         return false;
     }
     match core.lanes[cpu as usize]
         .queue
-        .smallest_vtime(table, cpu, steps)
+        .smallest_vtime(table, cpu, comparisons)
     {
         Some(smallest) => smallest < task.vtime,
         None => false,
@@ -189,18 +189,18 @@ fn is_to_yield<Q: SiblingQueue, L: Ledger>(
     table: &TaskTable,
     cpu: Cpu,
     task: &Task,
-    steps: &mut Steps<L>,
+    comparisons: &mut Steps<L>,
 ) -> bool
     requires { MayAsk cpu (core.now, table.now) task.now }
     ensures yields { (beside : Beside) →
         result ≡ is_to_yield (room_of beside (core.now, table.now)) cpu task.now }
-    ensures counted { ComparesFor 1 (core.now, table.now) steps.old steps.new }
+    ensures counted { ComparesFor 1 (core.now, table.now) comparisons.old comparisons.new }
 {
     let lane = &core.lanes[cpu as usize];
     is_fair(task)
         && core.account.count() != 0
         && lane.ran >= PATIENCE
-        && !lane.queue.has_peer(task, table, cpu, steps)
+        && !lane.queue.has_peer(task, table, cpu, comparisons)
 }
 
 /// Whether the tick asks for a reschedule. The test says whether the running task goes after the others
@@ -211,7 +211,7 @@ fn asks_at_tick<Q: SiblingQueue, L: Ledger>(
     cpu: Cpu,
     task: &Task,
     rotates: bool,
-    steps: &mut Steps<L>,
+    comparisons: &mut Steps<L>,
 ) -> bool
     requires may { MayAsk cpu (core.now, table.now) task.now }
     requires rotates { (beside : Beside) →
@@ -219,12 +219,13 @@ fn asks_at_tick<Q: SiblingQueue, L: Ledger>(
     ensures asks { (beside : Beside) →
         result ≡ asks_at_tick (room_of beside (core.now, table.now)) cpu task.now }
     ensures counted { ComparesFor (if rotates then 0 else 2)
-        (core.now, table.now) steps.old steps.new }
+        (core.now, table.now) comparisons.old comparisons.new }
 {
     if rotates {
         return true;
     }
-    is_overtaken(core, table, cpu, task, steps) || is_to_yield(core, table, cpu, task, steps)
+    is_overtaken(core, table, cpu, task, comparisons)
+        || is_to_yield(core, table, cpu, task, comparisons)
 }
 
 /// The task with the pid, if it is an RR one that has used its slice, begins a new one, with the next stamp if it goes
@@ -235,14 +236,14 @@ fn begin_slice<Q: SiblingQueue, L: Ledger>(
     pid: Pid,
     used: bool,
     rotates: bool,
-    steps: &mut Steps<L>,
+    comparisons: &mut Steps<L>,
 )
     requires { MayBeginSlice pid (core.old, table.old) }
     ensures changes { (cpu : ℕ) (task : SomeTask) → find (has_pid pid) table.old.tasks ≡ Some task →
         AreTests cpu (core.old, table.old) task used rotates →
         Changes (core.old, table.old) (core.new, table.new) (λ room. begin_slice room cpu task) }
     ensures counted { ComparesFor (if rotates then 2 else 0)
-        (core.old, table.old) steps.old steps.new }
+        (core.old, table.old) comparisons.old comparisons.new }
 {
     if rotates {
         let task = task_of(table, pid).unwrap();
@@ -253,7 +254,7 @@ fn begin_slice<Q: SiblingQueue, L: Ledger>(
             stamp,
             ..task
         };
-        core.change(table, last, steps);
+        core.change(table, last, comparisons);
     } else if used {
         table.set_used(pid, 0);
     }
@@ -266,11 +267,11 @@ pub fn tick<Q: SiblingQueue, L: Ledger>(
     table: &mut TaskTable,
     cpu: Cpu,
     now: u64,
-    steps: &mut Steps<L>,
+    comparisons: &mut Steps<L>,
 ) -> bool
     requires { MayTick now cpu (core.old, table.old) }
     ensures ticks { Ticks now (core.old, table.old) (core.new, table.new) cpu result }
-    ensures counted { ComparesFor 3 (core.old, table.old) steps.old steps.new }
+    ensures counted { ComparesFor 3 (core.old, table.old) comparisons.old comparisons.new }
 {
     charge(core, table, now);
     let Some(task) = core.runner(table, cpu) else {
@@ -278,9 +279,9 @@ pub fn tick<Q: SiblingQueue, L: Ledger>(
     };
     let pid = task.spec.pid;
     let used = has_used_slice(task);
-    let rotates = rotates(core, table, cpu, task, steps);
-    let asks = asks_at_tick(core, table, cpu, task, rotates, steps);
-    begin_slice(core, table, pid, used, rotates, steps);
+    let rotates = rotates(core, table, cpu, task, comparisons);
+    let asks = asks_at_tick(core, table, cpu, task, rotates, comparisons);
+    begin_slice(core, table, pid, used, rotates, comparisons);
     core.flag(cpu, asks);
     asks
 }

@@ -85,16 +85,16 @@ fn requeue<Q: SiblingQueue, L: Ledger>(
     table: &mut TaskTable,
     task: Task,
     now: u64,
-    steps: &mut Steps<L>,
+    comparisons: &mut Steps<L>,
 )
     requires { MayQueue now 2 (core.old, table.old) task }
     ensures touches { TouchesAt now 2 (core.old, table.old) (core.new, table.new)
         (λ room. requeue room task) }
-    ensures counted { ComparesFor 3 (core.old, table.old) steps.old steps.new }
+    ensures counted { ComparesFor 3 (core.old, table.old) comparisons.old comparisons.new }
 {
     let runs = core.lanes[task.home as usize].runs(task.spec.pid);
-    core.dequeue(table, task, steps);
-    wake_at_home(core, table, task, now, steps);
+    core.dequeue(table, task, comparisons);
+    wake_at_home(core, table, task, now, comparisons);
     core.flag(task.home, runs);
 }
 
@@ -103,14 +103,22 @@ fn requeue<Q: SiblingQueue, L: Ledger>(
 fn resched<Q: SiblingQueue, G: Guard, L: Ledger>(
     state: &mut State<Q, G>,
     cpu: Cpu,
-    steps: &mut Steps<L>,
+    comparisons: &mut Steps<L>,
 ) -> Reply
     requires { IsReadyAt cpu state.old }
     ensures makes { Makes state.old state.new (Event.Resched cpu) result }
-    ensures scheduled { ComparesForSchedule (state.old.core, state.old.tasks) steps.old steps.new }
-    ensures counted { ComparesForEvent state.old (Event.Resched cpu) steps.old steps.new }
+    ensures scheduled { ComparesForSchedule (state.old.core, state.old.tasks)
+        comparisons.old comparisons.new }
+    ensures counted { ComparesForEvent state.old (Event.Resched cpu)
+        comparisons.old comparisons.new }
 {
-    match schedule(&mut state.core, &mut state.tasks, cpu, state.clock, steps) {
+    match schedule(
+        &mut state.core,
+        &mut state.tasks,
+        cpu,
+        state.clock,
+        comparisons,
+    ) {
         Some(pick) => Reply::Picked(pick),
         None => Reply::Offline,
     }
@@ -118,18 +126,18 @@ fn resched<Q: SiblingQueue, G: Guard, L: Ledger>(
 
 /// The sibling tries to steal. It is never a part of the turn, which mostly finds nothing to do and is to stay small.
 #[inline(never)]
-fn steal<Q: SiblingQueue, L: Ledger>(
+fn answer_try<Q: SiblingQueue, L: Ledger>(
     core: &mut Core<Q>,
     table: &mut TaskTable,
     cpu: Cpu,
-    steps: &mut Steps<L>,
+    comparisons: &mut Steps<L>,
 ) -> Reply
     requires { MayTry cpu (core.old, table.old) }
     ensures tries { AnswersTry (core.old, table.old) (core.new, table.new) cpu result }
     ensures counted { ComparesFor (length table.old.tasks + 4)
-        (core.old, table.old) steps.old steps.new }
+        (core.old, table.old) comparisons.old comparisons.new }
 {
-    steal_reply(try_steal(core, table, cpu, steps))
+    steal_reply(try_steal(core, table, cpu, comparisons))
 }
 
 /// A pending reschedule is taken. Else the sibling tries to steal, if it is to.
@@ -137,25 +145,25 @@ fn steal<Q: SiblingQueue, L: Ledger>(
 fn turn<Q: SiblingQueue, G: Guard, L: Ledger>(
     state: &mut State<Q, G>,
     cpu: Cpu,
-    steps: &mut Steps<L>,
+    comparisons: &mut Steps<L>,
 ) -> Reply
     requires { IsReadyAt cpu state.old }
     ensures makes { Makes state.old state.new (Event.Turn cpu) result }
     ensures scheduled { (pick : Pick) → result ≡ Reply.Picked pick →
-        ComparesForSchedule (state.old.core, state.old.tasks) steps.old steps.new }
-    ensures counted { ComparesForEvent state.old (Event.Turn cpu) steps.old steps.new }
+        ComparesForSchedule (state.old.core, state.old.tasks) comparisons.old comparisons.new }
+    ensures counted { ComparesForEvent state.old (Event.Turn cpu) comparisons.old comparisons.new }
 {
     if !state.core.is_online(cpu) {
         return Reply::Offline;
     }
     let lane = &state.core.lanes[cpu as usize];
     if lane.pending {
-        return resched(state, cpu, steps);
+        return resched(state, cpu, comparisons);
     }
     if lane.place == 0 {
         return Reply::Nothing;
     }
-    steal(&mut state.core, &mut state.tasks, cpu, steps)
+    answer_try(&mut state.core, &mut state.tasks, cpu, comparisons)
 }
 
 /// The running task goes to sleep, and its sibling takes the next. The open interval is charged while the
@@ -164,11 +172,11 @@ fn turn<Q: SiblingQueue, G: Guard, L: Ledger>(
 fn block<Q: SiblingQueue, G: Guard, L: Ledger>(
     state: &mut State<Q, G>,
     cpu: Cpu,
-    steps: &mut Steps<L>,
+    comparisons: &mut Steps<L>,
 ) -> Reply
     requires { IsReadyAt cpu state.old }
     ensures makes { Makes state.old state.new (Event.Block cpu) result }
-    ensures counted { ComparesForEvent state.old (Event.Block cpu) steps.old steps.new }
+    ensures counted { ComparesForEvent state.old (Event.Block cpu) comparisons.old comparisons.new }
 {
     if !state.core.is_online(cpu) {
         return Reply::Offline;
@@ -179,11 +187,17 @@ fn block<Q: SiblingQueue, G: Guard, L: Ledger>(
     charge(&mut state.core, &mut state.tasks, state.clock);
     state
         .core
-        .put_to_sleep(&mut state.tasks, task.spec.pid, steps);
+        .put_to_sleep(&mut state.tasks, task.spec.pid, comparisons);
     state.core.run_idle(cpu);
     Reply::Slept {
         pid: task.spec.pid,
-        pick: pick_and_balance(&mut state.core, &mut state.tasks, cpu, state.clock, steps),
+        pick: pick_and_balance(
+            &mut state.core,
+            &mut state.tasks,
+            cpu,
+            state.clock,
+            comparisons,
+        ),
     }
 }
 
@@ -192,11 +206,11 @@ fn block<Q: SiblingQueue, G: Guard, L: Ledger>(
 fn exit<Q: SiblingQueue, G: Guard, L: Ledger>(
     state: &mut State<Q, G>,
     cpu: Cpu,
-    steps: &mut Steps<L>,
+    comparisons: &mut Steps<L>,
 ) -> Reply
     requires { IsReadyAt cpu state.old }
     ensures makes { Makes state.old state.new (Event.Exit cpu) result }
-    ensures counted { ComparesForEvent state.old (Event.Exit cpu) steps.old steps.new }
+    ensures counted { ComparesForEvent state.old (Event.Exit cpu) comparisons.old comparisons.new }
 {
     if !state.core.is_online(cpu) {
         return Reply::Offline;
@@ -208,11 +222,17 @@ fn exit<Q: SiblingQueue, G: Guard, L: Ledger>(
         return Reply::HasThreads;
     }
     charge(&mut state.core, &mut state.tasks, state.clock);
-    state.end(task, steps);
+    state.end(task, comparisons);
     state.core.run_idle(cpu);
     Reply::Ended {
         pid: task.spec.pid,
-        pick: pick_and_balance(&mut state.core, &mut state.tasks, cpu, state.clock, steps),
+        pick: pick_and_balance(
+            &mut state.core,
+            &mut state.tasks,
+            cpu,
+            state.clock,
+            comparisons,
+        ),
     }
 }
 
@@ -220,27 +240,33 @@ fn exit<Q: SiblingQueue, G: Guard, L: Ledger>(
 fn tick<Q: SiblingQueue, G: Guard, L: Ledger>(
     state: &mut State<Q, G>,
     cpu: Cpu,
-    steps: &mut Steps<L>,
+    comparisons: &mut Steps<L>,
 ) -> Reply
     requires { IsReadyAt cpu state.old }
     ensures makes { Makes state.old state.new (Event.Tick cpu) result }
-    ensures counted { ComparesForEvent state.old (Event.Tick cpu) steps.old steps.new }
+    ensures counted { ComparesForEvent state.old (Event.Tick cpu) comparisons.old comparisons.new }
 {
     if !state.core.is_online(cpu) {
         return Reply::Offline;
     }
-    Reply::Ticked(core_clock::tick(&mut state.core, &mut state.tasks, cpu, state.clock, steps))
+    Reply::Ticked(core_clock::tick(
+        &mut state.core,
+        &mut state.tasks,
+        cpu,
+        state.clock,
+        comparisons,
+    ))
 }
 
 /// A sleeping task is queued at its home.
 fn wake<Q: SiblingQueue, G: Guard, L: Ledger>(
     state: &mut State<Q, G>,
     pid: Pid,
-    steps: &mut Steps<L>,
+    comparisons: &mut Steps<L>,
 ) -> Reply
     requires ready { IsReady state.old }
     ensures makes { Makes state.old state.new (Event.Wake pid) result }
-    ensures counted { ComparesForEvent state.old (Event.Wake pid) steps.old steps.new }
+    ensures counted { ComparesForEvent state.old (Event.Wake pid) comparisons.old comparisons.new }
 {
     let Some(task) = state.tasks.find(pid) else {
         return Reply::NoTask;
@@ -250,7 +276,13 @@ fn wake<Q: SiblingQueue, G: Guard, L: Ledger>(
     }
     let mut task = *task;
     rehome(&state.core, &mut task);
-    wake_at_home(&mut state.core, &mut state.tasks, task, state.clock, steps);
+    wake_at_home(
+        &mut state.core,
+        &mut state.tasks,
+        task,
+        state.clock,
+        comparisons,
+    );
     Reply::Woken(task.home)
 }
 
@@ -258,13 +290,20 @@ fn wake<Q: SiblingQueue, G: Guard, L: Ledger>(
 fn advance<Q: SiblingQueue, G: Guard, L: Ledger>(
     state: &mut State<Q, G>,
     delta: u64,
-    steps: &mut Steps<L>,
+    comparisons: &mut Steps<L>,
 ) -> Reply
     requires { IsReadyFor (Event.Advance delta) state.old }
     ensures makes { Makes state.old state.new (Event.Advance delta) result }
-    ensures counted { ComparesForEvent state.old (Event.Advance delta) steps.old steps.new }
+    ensures counted { ComparesForEvent state.old (Event.Advance delta)
+        comparisons.old comparisons.new }
 {
-    state.clock = core_clock::advance(&mut state.core, &mut state.tasks, delta, state.clock, steps);
+    state.clock = core_clock::advance(
+        &mut state.core,
+        &mut state.tasks,
+        delta,
+        state.clock,
+        comparisons,
+    );
     Reply::Now(state.clock)
 }
 
@@ -273,16 +312,23 @@ fn fork<Q: SiblingQueue, G: Guard, L: Ledger>(
     state: &mut State<Q, G>,
     caller: Pid,
     thread: bool,
-    steps: &mut Steps<L>,
+    comparisons: &mut Steps<L>,
 ) -> Reply
     requires ready { IsReady state.old }
     ensures makes { Makes state.old state.new (Event.Fork caller thread) result }
-    ensures counted { ComparesForEvent state.old (Event.Fork caller thread) steps.old steps.new }
+    ensures counted { ComparesForEvent state.old (Event.Fork caller thread)
+        comparisons.old comparisons.new }
 {
     match state.make_child(caller, thread) {
         Ok(child) => {
             let task = child_at_home(&state.core, child);
-            wake_at_home(&mut state.core, &mut state.tasks, task, state.clock, steps);
+            wake_at_home(
+                &mut state.core,
+                &mut state.tasks,
+                task,
+                state.clock,
+                comparisons,
+            );
             Reply::Child(child.spec.pid)
         }
         Err(ForkFault::NoCaller) => Reply::NoCaller,
@@ -295,11 +341,12 @@ fn set_policy<Q: SiblingQueue, G: Guard, L: Ledger>(
     state: &mut State<Q, G>,
     pid: Pid,
     policy: Policy,
-    steps: &mut Steps<L>,
+    comparisons: &mut Steps<L>,
 ) -> Reply
     requires { IsReadyFor (Event.SetSched pid policy) state.old }
     ensures makes { Makes state.old state.new (Event.SetSched pid policy) result }
-    ensures counted { ComparesForEvent state.old (Event.SetSched pid policy) steps.old steps.new }
+    ensures counted { ComparesForEvent state.old (Event.SetSched pid policy)
+        comparisons.old comparisons.new }
 {
     let Some(task) = task_of(&state.tasks, pid) else {
         return Reply::NoTask;
@@ -311,10 +358,10 @@ fn set_policy<Q: SiblingQueue, G: Guard, L: Ledger>(
             &mut state.tasks,
             changed,
             state.clock,
-            steps,
+            comparisons,
         );
     } else {
-        state.core.change(&mut state.tasks, changed, steps);
+        state.core.change(&mut state.tasks, changed, comparisons);
     }
     Reply::Set
 }
@@ -323,13 +370,20 @@ fn set_policy<Q: SiblingQueue, G: Guard, L: Ledger>(
 fn take_offline<Q: SiblingQueue, G: Guard, L: Ledger>(
     state: &mut State<Q, G>,
     cpu: Cpu,
-    steps: &mut Steps<L>,
+    comparisons: &mut Steps<L>,
 ) -> Reply
     requires { IsReadyAt cpu state.old }
     ensures makes { Makes state.old state.new (Event.Offline cpu) result }
-    ensures counted { ComparesForEvent state.old (Event.Offline cpu) steps.old steps.new }
+    ensures counted { ComparesForEvent state.old (Event.Offline cpu)
+        comparisons.old comparisons.new }
 {
-    hotplug_reply(offline(&mut state.core, &mut state.tasks, cpu, state.clock, steps))
+    hotplug_reply(offline(
+        &mut state.core,
+        &mut state.tasks,
+        cpu,
+        state.clock,
+        comparisons,
+    ))
 }
 
 /// The sibling comes back, unless it is online already.
@@ -345,14 +399,15 @@ fn prctl<Q: SiblingQueue, G: Guard, L: Ledger>(
     state: &mut State<Q, G>,
     pid: Pid,
     ask: Ask,
-    steps: &mut Steps<L>,
+    comparisons: &mut Steps<L>,
 ) -> Reply
     requires ready { IsReady state.old }
     ensures makes { Makes state.old state.new (Event.Prctl pid ask) result }
-    ensures counted { ComparesForEvent state.old (Event.Prctl pid ask) steps.old steps.new }
+    ensures counted { ComparesForEvent state.old (Event.Prctl pid ask)
+        comparisons.old comparisons.new }
 {
     let smt_off = is_smt_off(&state.core);
-    state.prctl(smt_off, pid, ask, steps)
+    state.prctl(smt_off, pid, ask, comparisons)
 }
 
 /// Makes the step of an event, and answers what the rules answer. It compares no more keys than the event's calls of a
@@ -361,24 +416,24 @@ fn prctl<Q: SiblingQueue, G: Guard, L: Ledger>(
 pub fn apply<Q: SiblingQueue, G: Guard, L: Ledger>(
     state: &mut State<Q, G>,
     event: Event,
-    steps: &mut Steps<L>,
+    comparisons: &mut Steps<L>,
 ) -> Reply
     requires { IsReadyFor event state.old }
     ensures makes { Makes state.old state.new event result }
-    ensures counted { ComparesForEvent state.old event steps.old steps.new }
+    ensures counted { ComparesForEvent state.old event comparisons.old comparisons.new }
 {
     match event {
-        Event::Turn(cpu) => turn(state, cpu, steps),
-        Event::Resched(cpu) => resched(state, cpu, steps),
-        Event::Block(cpu) => block(state, cpu, steps),
-        Event::Exit(cpu) => exit(state, cpu, steps),
-        Event::Tick(cpu) => tick(state, cpu, steps),
-        Event::Wake(pid) => wake(state, pid, steps),
-        Event::Advance(delta) => advance(state, delta, steps),
-        Event::Fork { caller, thread } => fork(state, caller, thread, steps),
-        Event::Prctl { caller, ask } => prctl(state, caller, ask, steps),
-        Event::SetSched { pid, policy } => set_policy(state, pid, policy, steps),
-        Event::Offline(cpu) => take_offline(state, cpu, steps),
+        Event::Turn(cpu) => turn(state, cpu, comparisons),
+        Event::Resched(cpu) => resched(state, cpu, comparisons),
+        Event::Block(cpu) => block(state, cpu, comparisons),
+        Event::Exit(cpu) => exit(state, cpu, comparisons),
+        Event::Tick(cpu) => tick(state, cpu, comparisons),
+        Event::Wake(pid) => wake(state, pid, comparisons),
+        Event::Advance(delta) => advance(state, delta, comparisons),
+        Event::Fork { caller, thread } => fork(state, caller, thread, comparisons),
+        Event::Prctl { caller, ask } => prctl(state, caller, ask, comparisons),
+        Event::SetSched { pid, policy } => set_policy(state, pid, policy, comparisons),
+        Event::Offline(cpu) => take_offline(state, cpu, comparisons),
         Event::Online(cpu) => bring_online(state, cpu),
         Event::Load(index) => state.load(index),
         Event::Unload(index) => state.unload(index),

@@ -89,8 +89,8 @@ fn counted<Q: SiblingQueue, G: Guard, L: Ledger>(
     requires may { IsReadyFor event state.old }
     ensures { Makes state.old state.new event result }
 {
-    let mut steps = Steps::<L>::start(blank);
-    apply(state, event, &mut steps)
+    let mut comparisons = Steps::<L>::start(blank);
+    apply(state, event, &mut comparisons)
 }
 
 impl<Q: SiblingQueue, G: Guard> CoreRoom<Q, G> {

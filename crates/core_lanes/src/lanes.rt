@@ -106,15 +106,17 @@ impl<Q: SiblingQueue> Core<Q> {
         &self,
         table: &TaskTable,
         cpu: Cpu,
-        steps: &mut Steps<L>,
+        comparisons: &mut Steps<L>,
     ) -> Option<Queued>
         requires { AgreesAt cpu (self.now, table.now) }
         ensures first { (beside : Beside) →
             result ≡ option_map queued_of (first_on (room_of beside (self.now, table.now)) cpu) }
-        ensures counted { steps.new ≤ steps.old
+        ensures counted { comparisons.new ≤ comparisons.old
             + Q.most_compared (length (queued_among table.now.tasks cpu)) }
     {
-        self.lanes[cpu as usize].queue.first(table, cpu, steps)
+        self.lanes[cpu as usize]
+            .queue
+            .first(table, cpu, comparisons)
     }
 
     /// Whether a task is queued on a sibling. It compares nothing.
@@ -170,50 +172,55 @@ impl<Q: SiblingQueue> Core<Q> {
 
     /// The queue that the task stands in, if one, has it no longer.
     #[inline(always)]
-    fn take<L: Ledger>(&mut self, table: &TaskTable, task: &Task, steps: &mut Steps<L>)
+    fn take<L: Ledger>(&mut self, table: &TaskTable, task: &Task, comparisons: &mut Steps<L>)
         requires { IsAtHome (AreHeld (self.old, table.now)) (self.old, table.now) task.now }
         ensures queues { ChangesQueues self.old self.new
             (AreHeldBut task.now.spec.pid (self.new, table.now)) }
-        ensures counted { ComparesFor 1 (self.old, table.now) steps.old steps.new }
+        ensures counted { ComparesFor 1 (self.old, table.now) comparisons.old comparisons.new }
     {
         if task.queued {
             self.lanes[task.home as usize]
                 .queue
-                .take(table, task.home, task, steps);
+                .take(table, task.home, task, comparisons);
         }
     }
 
     /// The queue that the task belongs in, if one, has it.
-    fn put<L: Ledger>(&mut self, table: &TaskTable, task: &Task, steps: &mut Steps<L>)
+    fn put<L: Ledger>(&mut self, table: &TaskTable, task: &Task, comparisons: &mut Steps<L>)
         requires home { IsAtHome (AreHeldBut task.now.spec.pid (self.old, table.now))
             (self.old, table.now) task.now }
         requires stamp { IsTrue task.now.queued → HasOwnStamp table.now.tasks task.now }
         ensures queues { ChangesQueues self.old self.new (AreHeld (self.new, table.now)) }
-        ensures counted { ComparesFor 1 (self.old, table.now) steps.old steps.new }
+        ensures counted { ComparesFor 1 (self.old, table.now) comparisons.old comparisons.new }
     {
         if task.queued {
             self.lanes[task.home as usize]
                 .queue
-                .put(table, task.home, task, steps);
+                .put(table, task.home, task, comparisons);
         }
     }
 
     /// The task's numbers are these now, in the table and in the queues.
     #[inline(always)]
-    pub fn change<L: Ledger>(&mut self, table: &mut TaskTable, task: Task, steps: &mut Steps<L>)
+    pub fn change<L: Ledger>(
+        &mut self,
+        table: &mut TaskTable,
+        task: Task,
+        comparisons: &mut Steps<L>,
+    )
         requires { Knows (self.old, table.old) task }
         ensures changes { Changes (self.old, table.old) (self.new, table.new)
             (λ room. with_task room task) }
-        ensures counted { ComparesFor 2 (self.old, table.old) steps.old steps.new }
+        ensures counted { ComparesFor 2 (self.old, table.old) comparisons.old comparisons.new }
     {
         let old = table.find(task.spec.pid).unwrap();
         if is_alike(old, &task) {
             table.change(task);
             return;
         }
-        self.take(table, old, steps);
+        self.take(table, old, comparisons);
         table.change(task);
-        self.put(table, &task, steps);
+        self.put(table, &task, comparisons);
     }
 
     /// The queue that the task stands in, if one, has it as it is with this cookie.
@@ -223,17 +230,17 @@ impl<Q: SiblingQueue> Core<Q> {
         table: &TaskTable,
         task: &Task,
         cookie: Cookie,
-        steps: &mut Steps<L>,
+        comparisons: &mut Steps<L>,
     )
         requires { IsAtHome (AreHeld (self.old, table.now)) (self.old, table.now) task.now }
         ensures queues { ChangesQueues self.old self.new (AreHeld
             (self.new, record table.now { tasks = given_cookie task.now cookie table.now.tasks })) }
-        ensures counted { ComparesFor 1 (self.old, table.now) steps.old steps.new }
+        ensures counted { ComparesFor 1 (self.old, table.now) comparisons.old comparisons.new }
     {
         if task.queued {
             self.lanes[task.home as usize]
                 .queue
-                .set_cookie(table, task.home, task, cookie, steps);
+                .set_cookie(table, task.home, task, cookie, comparisons);
         }
     }
 
@@ -244,18 +251,18 @@ impl<Q: SiblingQueue> Core<Q> {
         table: &mut TaskTable,
         task: &Task,
         cookie: Cookie,
-        steps: &mut Steps<L>,
+        comparisons: &mut Steps<L>,
     )
         requires there { IsOf table.old.tasks task.now }
         requires agree { Agree (self.old, table.old) }
         ensures replaces { Replaces (record task.now { cookie = cookie })
             (self.old, table.old) (self.new, table.new) }
-        ensures counted { ComparesFor 1 (self.old, table.old) steps.old steps.new }
+        ensures counted { ComparesFor 1 (self.old, table.old) comparisons.old comparisons.new }
     {
         if task.cookie == cookie {
             return;
         }
-        self.set_cookie_in_queue(table, task, cookie, steps);
+        self.set_cookie_in_queue(table, task, cookie, comparisons);
         table.give_cookie(task.spec.pid, cookie);
     }
 
@@ -267,18 +274,18 @@ impl<Q: SiblingQueue> Core<Q> {
         table: &TaskTable,
         task: &Task,
         vtime: u128,
-        steps: &mut Steps<L>,
+        comparisons: &mut Steps<L>,
     )
         requires fair { IsTrue (is_fair task.now) }
         requires home { IsAtHome (AreHeld (self.old, table.now)) (self.old, table.now) task.now }
         ensures queues { ChangesQueues self.old self.new (AreHeld
             (self.new, record table.now { tasks = given_vtime task.now vtime table.now.tasks })) }
-        ensures counted { ComparesFor 2 (self.old, table.now) steps.old steps.new }
+        ensures counted { ComparesFor 2 (self.old, table.now) comparisons.old comparisons.new }
     {
         if task.queued {
             self.lanes[task.home as usize]
                 .queue
-                .set_vtime(table, task.home, task, vtime, steps);
+                .set_vtime(table, task.home, task, vtime, comparisons);
         }
     }
 
@@ -302,42 +309,54 @@ impl<Q: SiblingQueue> Core<Q> {
         pid: Pid,
         from: Cpu,
         to: Cpu,
-        steps: &mut Steps<L>,
+        comparisons: &mut Steps<L>,
     )
         requires { MayEnter pid from to (self.old, table.old) }
         ensures enters { Enters pid from to (self.old, table.old) (self.new, table.new) }
-        ensures counted { ComparesFor 1 (self.old, table.old) steps.old steps.new }
+        ensures counted { ComparesFor 1 (self.old, table.old) comparisons.old comparisons.new }
     {
         self.place(table, &[pid], from, to);
         let entered = table.find(pid).unwrap();
-        self.lanes[to as usize].queue.put(table, to, entered, steps);
+        self.lanes[to as usize]
+            .queue
+            .put(table, to, entered, comparisons);
     }
 
     /// The task is asleep (`dequeue_task`).
     #[inline(always)]
-    pub fn dequeue<L: Ledger>(&mut self, table: &mut TaskTable, task: Task, steps: &mut Steps<L>)
+    pub fn dequeue<L: Ledger>(
+        &mut self,
+        table: &mut TaskTable,
+        task: Task,
+        comparisons: &mut Steps<L>,
+    )
         requires { MayDequeue (self.old, table.old) task }
         ensures touches { Touches 1 (self.old, table.old) (self.new, table.new)
             (λ room. dequeue room task) }
-        ensures counted { ComparesFor 2 (self.old, table.old) steps.old steps.new }
+        ensures counted { ComparesFor 2 (self.old, table.old) comparisons.old comparisons.new }
     {
         let mut asleep = task;
         asleep.queued = false;
-        self.change(table, asleep, steps);
+        self.change(table, asleep, comparisons);
         self.touch();
     }
 
     /// The task with the pid is asleep (`dequeue_task`). It is changed where it stands in the table, since to copy a
     /// task takes longer.
     #[inline(always)]
-    pub fn put_to_sleep<L: Ledger>(&mut self, table: &mut TaskTable, pid: Pid, steps: &mut Steps<L>)
+    pub fn put_to_sleep<L: Ledger>(
+        &mut self,
+        table: &mut TaskTable,
+        pid: Pid,
+        comparisons: &mut Steps<L>,
+    )
         requires { MaySleep pid (self.old, table.old) }
         ensures touches { (task : SomeTask) → find (has_pid pid) table.old.tasks ≡ Some task →
             Touches 1 (self.old, table.old) (self.new, table.new) (λ room. dequeue room task) }
-        ensures counted { ComparesFor 1 (self.old, table.old) steps.old steps.new }
+        ensures counted { ComparesFor 1 (self.old, table.old) comparisons.old comparisons.new }
     {
         let task = table.find(pid).unwrap();
-        self.take(table, task, steps);
+        self.take(table, task, comparisons);
         table.put_to_sleep(pid);
         self.touch();
     }
@@ -345,35 +364,45 @@ impl<Q: SiblingQueue> Core<Q> {
     /// The task, which sleeps in the table, is queued as it is here, with the next stamp (`enqueue_task`). What differs
     /// here, its home and its times, is changed where it stands in the table.
     #[inline(always)]
-    pub fn wake<L: Ledger>(&mut self, table: &mut TaskTable, task: &Task, steps: &mut Steps<L>)
+    pub fn wake<L: Ledger>(
+        &mut self,
+        table: &mut TaskTable,
+        task: &Task,
+        comparisons: &mut Steps<L>,
+    )
         requires { MayWake (self.old, table.old) task.now }
         ensures touches { Touches 1 (self.old, table.old) (self.new, table.new)
             (λ room. enqueue room task.now) }
-        ensures counted { ComparesFor 1 (self.old, table.old) steps.old steps.new }
+        ensures counted { ComparesFor 1 (self.old, table.old) comparisons.old comparisons.new }
     {
         let stamp = self.next_stamp;
         self.next_stamp += 1;
         let pid = task.spec.pid;
         table.queue_up(pid, task.home, task.vtime, task.deadline, stamp);
         let queued = table.find(pid).unwrap();
-        self.put(table, queued, steps);
+        self.put(table, queued, comparisons);
         self.touch();
     }
 
     /// The task is queued, with the next stamp (`enqueue_task`).
     #[inline(always)]
-    pub fn enqueue<L: Ledger>(&mut self, table: &mut TaskTable, task: Task, steps: &mut Steps<L>)
+    pub fn enqueue<L: Ledger>(
+        &mut self,
+        table: &mut TaskTable,
+        task: Task,
+        comparisons: &mut Steps<L>,
+    )
         requires { MayEnqueue (self.old, table.old) task }
         ensures touches { Touches 1 (self.old, table.old) (self.new, table.new)
             (λ room. enqueue room task) }
-        ensures counted { ComparesFor 2 (self.old, table.old) steps.old steps.new }
+        ensures counted { ComparesFor 2 (self.old, table.old) comparisons.old comparisons.new }
     {
         let stamp = self.next_stamp;
         self.next_stamp += 1;
         let mut queued = task;
         queued.queued = true;
         queued.stamp = stamp;
-        self.change(table, queued, steps);
+        self.change(table, queued, comparisons);
         self.touch();
     }
 

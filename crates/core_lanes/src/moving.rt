@@ -65,15 +65,15 @@ impl<Q: SiblingQueue> Core<Q> {
         from: Cpu,
         to: Cpu,
         movers: &[Pid],
-        steps: &mut Steps<L>,
+        comparisons: &mut Steps<L>,
     )
         requires { MayExchange from to (self.old, table.now) }
         ensures queues { ChangesQueues self.old self.new (AreHeld (self.new, table.now)) }
-        ensures counted { ComparesFor 3 (self.old, table.now) steps.old steps.new }
+        ensures counted { ComparesFor 3 (self.old, table.now) comparisons.old comparisons.new }
     {
         swap_queues(&mut self.lanes, from as usize, to as usize);
         self.lanes[to as usize]
             .queue
-            .renew(table, to, movers, steps);
+            .renew(table, to, movers, comparisons);
     }
 }

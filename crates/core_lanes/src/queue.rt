@@ -33,18 +33,30 @@ pub trait SiblingQueue: Drop {
         ensures { IfOk result (λ queue. holds queue most []) };
 
     /// The task, which the table has queued on the sibling, enters.
-    fn put<L: Ledger>(&mut self, table: &TaskTable, cpu: Cpu, task: &Task, steps: &mut Steps<L>)
+    fn put<L: Ledger>(
+        &mut self,
+        table: &TaskTable,
+        cpu: Cpu,
+        task: &Task,
+        comparisons: &mut Steps<L>,
+    )
         requires { MayBePut (holds self.old) cpu table.now task.now }
         ensures holds { holds self.new table.now.limit (queued_at table.now.tasks cpu) }
-        ensures counted { steps.new ≤ steps.old
+        ensures counted { comparisons.new ≤ comparisons.old
             + most_compared (length (queued_among table.now.tasks cpu)) };
 
     /// The task, which the table has queued on the sibling, leaves.
-    fn take<L: Ledger>(&mut self, table: &TaskTable, cpu: Cpu, task: &Task, steps: &mut Steps<L>)
+    fn take<L: Ledger>(
+        &mut self,
+        table: &TaskTable,
+        cpu: Cpu,
+        task: &Task,
+        comparisons: &mut Steps<L>,
+    )
         requires { IsQueuedOn (holds self.old) cpu table.now task.now }
         ensures holds { holds self.new table.now.limit
             (others task.now.spec.pid (queued_at table.now.tasks cpu)) }
-        ensures counted { steps.new ≤ steps.old
+        ensures counted { comparisons.new ≤ comparisons.old
             + most_compared (length (queued_among table.now.tasks cpu)) };
 
     /// The task, which the table has queued on the sibling, is about to have this cookie there
@@ -55,12 +67,12 @@ pub trait SiblingQueue: Drop {
         cpu: Cpu,
         task: &Task,
         cookie: Cookie,
-        steps: &mut Steps<L>,
+        comparisons: &mut Steps<L>,
     )
         requires { IsQueuedOn (holds self.old) cpu table.now task.now }
         ensures holds { holds self.new table.now.limit
             (queued_at (given_cookie task.now cookie table.now.tasks) cpu) }
-        ensures counted { steps.new ≤ steps.old
+        ensures counted { comparisons.new ≤ comparisons.old
             + most_compared (length (queued_among table.now.tasks cpu)) };
 
     /// The task, a fair one that the table has queued on the sibling, is about to have this virtual time there, in
@@ -71,12 +83,12 @@ pub trait SiblingQueue: Drop {
         cpu: Cpu,
         task: &Task,
         vtime: u128,
-        steps: &mut Steps<L>,
+        comparisons: &mut Steps<L>,
     )
         requires { IsFairOn (holds self.old) cpu table.now task.now }
         ensures holds { holds self.new table.now.limit
             (queued_at (given_vtime task.now vtime table.now.tasks) cpu) }
-        ensures counted { steps.new ≤ steps.old
+        ensures counted { comparisons.new ≤ comparisons.old
             + 2 * most_compared (length (queued_among table.now.tasks cpu)) };
 
     /// Every task leaves. It can take as many in all as before.
@@ -99,19 +111,24 @@ pub trait SiblingQueue: Drop {
         table: &TaskTable,
         cpu: Cpu,
         movers: &[Pid],
-        steps: &mut Steps<L>,
+        comparisons: &mut Steps<L>,
     )
         requires { MayRenew (holds self.old table.now.limit) cpu table.now }
         ensures holds { holds self.new table.now.limit (queued_at table.now.tasks cpu) }
-        ensures counted { steps.new ≤ steps.old
+        ensures counted { comparisons.new ≤ comparisons.old
             + 3 * most_compared (length (queued_among table.now.tasks cpu)) };
 
     /// The first task, `None` if there is none (`pick_task`).
-    fn first<L: Ledger>(&self, table: &TaskTable, cpu: Cpu, steps: &mut Steps<L>) -> Option<Queued>
+    fn first<L: Ledger>(
+        &self,
+        table: &TaskTable,
+        cpu: Cpu,
+        comparisons: &mut Steps<L>,
+    ) -> Option<Queued>
         requires { MaySearch (holds self.now) cpu table.now }
         ensures answer { result ≡ option_map queued_of
             (first_of (queued_among table.now.tasks cpu)) }
-        ensures counted { steps.new ≤ steps.old
+        ensures counted { comparisons.new ≤ comparisons.old
             + most_compared (length (queued_among table.now.tasks cpu)) };
 
     /// The first task with the cookie, which is not 0 (`sched_core_find`).
@@ -120,12 +137,12 @@ pub trait SiblingQueue: Drop {
         cookie: Cookie,
         table: &TaskTable,
         cpu: Cpu,
-        steps: &mut Steps<L>,
+        comparisons: &mut Steps<L>,
     ) -> Option<Queued>
         requires { MayFind (holds self.now) cpu table.now cookie }
         ensures answer { result ≡ option_map queued_of
             (first_of (with_cookie cookie (queued_among table.now.tasks cpu))) }
-        ensures counted { steps.new ≤ steps.old
+        ensures counted { comparisons.new ≤ comparisons.old
             + most_compared (length (queued_among table.now.tasks cpu)) };
 
     /// The first task with the cookie of this one, which is not 0, that stands after it (`sched_core_next`).
@@ -134,13 +151,13 @@ pub trait SiblingQueue: Drop {
         task: &Task,
         table: &TaskTable,
         cpu: Cpu,
-        steps: &mut Steps<L>,
+        comparisons: &mut Steps<L>,
     ) -> Option<Task>
         requires policy { IsPolicy task.now.spec.policy }
         requires find { MayFind (holds self.now) cpu table.now task.now.cookie }
         ensures answer { result ≡ first_of
             (behind task.now (with_cookie task.now.cookie (queued_among table.now.tasks cpu))) }
-        ensures counted { steps.new ≤ steps.old
+        ensures counted { comparisons.new ≤ comparisons.old
             + most_compared (length (queued_among table.now.tasks cpu)) };
 
     /// The smallest virtual time of the fair tasks, in ns, `None` if there is none (`update_min_vruntime`).
@@ -148,11 +165,11 @@ pub trait SiblingQueue: Drop {
         &self,
         table: &TaskTable,
         cpu: Cpu,
-        steps: &mut Steps<L>,
+        comparisons: &mut Steps<L>,
     ) -> Option<u128>
         requires { MaySearch (holds self.now) cpu table.now }
         ensures answer { result ≡ smallest_vtime (queued_among table.now.tasks cpu) }
-        ensures counted { steps.new ≤ steps.old
+        ensures counted { comparisons.new ≤ comparisons.old
             + most_compared (length (queued_among table.now.tasks cpu)) };
 
     /// Whether there is another task of the class of this one, and among real-time tasks one of its priority.
@@ -161,11 +178,11 @@ pub trait SiblingQueue: Drop {
         task: &Task,
         table: &TaskTable,
         cpu: Cpu,
-        steps: &mut Steps<L>,
+        comparisons: &mut Steps<L>,
     ) -> bool
         requires { MayCompare (holds self.now) cpu table.now task.now }
         ensures answer { result ≡ has_peer task.now (queued_among table.now.tasks cpu) }
-        ensures counted { steps.new ≤ steps.old
+        ensures counted { comparisons.new ≤ comparisons.old
             + most_compared (length (queued_among table.now.tasks cpu)) };
 
     /// How many tasks there are (`nr_running`).

@@ -121,14 +121,14 @@ fn select_for<Q: SiblingQueue, L: Ledger>(
     choices: &mut [Choice],
     cookie: Cookie,
     now: u64,
-    steps: &mut Steps<L>,
+    comparisons: &mut Steps<L>,
 ) -> Option<Pid>
     requires may { MaySelect now cpu cookie choices.old (core.old, table.old) }
     ensures selects { Selects now (core.old, table.old) (core.new, table.new) cpu cookie result }
     ensures counted { Compares (core.old, table.old)
-        (λ most. steps.new ≤ steps.old + length core.old.lanes.items * most) }
+        (λ most. comparisons.new ≤ comparisons.old + length core.old.lanes.items * most) }
 {
-    let Counts { forced, occupation } = choose(choices, core, table, cookie, steps);
+    let Counts { forced, occupation } = choose(choices, core, table, cookie, comparisons);
     let renews = renews_snapshots(core.account.count(), forced);
     core.cookie = cookie;
     core.account.begin(cookie, forced, occupation, now);
@@ -143,7 +143,7 @@ fn select<Q: SiblingQueue, L: Ledger>(
     cpu: Cpu,
     first: &First,
     now: u64,
-    steps: &mut Steps<L>,
+    comparisons: &mut Steps<L>,
 ) -> Pick
     requires may { MayPick now cpu (core.old, table.old) }
     requires first { KeepsFirst cpu (core.old, table.old) first.now }
@@ -151,13 +151,13 @@ fn select<Q: SiblingQueue, L: Ledger>(
         (λ room. select room cpu) }
 
     // The first was asked before.
-    ensures counted { Compares (core.old, table.old) (λ most. steps.new + most
-        ≤ steps.old + most_of_schedule (length core.old.lanes.items) most) }
+    ensures counted { Compares (core.old, table.old) (λ most. comparisons.new + most
+        ≤ comparisons.old + most_of_schedule (length core.old.lanes.items) most) }
 {
-    let mut places = [Choice::default(); MOST_SIBLINGS];
-    let choices = &mut places[..core.lanes.len()];
-    let cookie = ask(choices, core, table, cpu, first, steps);
-    let run = select_for(core, table, cpu, choices, cookie, now, steps);
+    let mut choices = [Choice::default(); MOST_SIBLINGS];
+    let choices = &mut choices[..core.lanes.len()];
+    let cookie = ask(choices, core, table, cpu, first, comparisons);
+    let run = select_for(core, table, cpu, choices, cookie, now, comparisons);
     core.touch();
     core.pick_number = core.task_number;
     core.lanes[cpu as usize].number = core.pick_number;
@@ -177,17 +177,17 @@ fn pick_anew<Q: SiblingQueue, L: Ledger>(
     table: &mut TaskTable,
     cpu: Cpu,
     now: u64,
-    steps: &mut Steps<L>,
+    comparisons: &mut Steps<L>,
 ) -> Pick
     requires { MayPick now cpu (core.old, table.old) }
     ensures { SchedulesWithin now (core.old, table.old) (core.new, table.new) cpu result
-        steps.old steps.new (λ room. pick_anew room cpu) }
+        comparisons.old comparisons.new (λ room. pick_anew room cpu) }
 {
-    let first = first_at(core, table, cpu, steps);
+    let first = first_at(core, table, cpu, comparisons);
     if is_plain(core, &first) {
         pick_plain(core, cpu, &first)
     } else {
-        select(core, table, cpu, &first, now, steps)
+        select(core, table, cpu, &first, now, comparisons)
     }
 }
 
@@ -197,14 +197,14 @@ pub fn pick_and_balance<Q: SiblingQueue, L: Ledger>(
     table: &mut TaskTable,
     cpu: Cpu,
     now: u64,
-    steps: &mut Steps<L>,
+    comparisons: &mut Steps<L>,
 ) -> Pick
     requires { MayPick now cpu (core.old, table.old) }
     ensures { SchedulesWithin now (core.old, table.old) (core.new, table.new) cpu result
-        steps.old steps.new
+        comparisons.old comparisons.new
         (λ room. balance cpu (pick_anew room cpu)) }
 {
-    let pick = pick_anew(core, table, cpu, now, steps);
+    let pick = pick_anew(core, table, cpu, now, comparisons);
     balance(core, table, cpu);
     pick
 }
@@ -216,20 +216,20 @@ fn adopt_or_pick_anew<Q: SiblingQueue, L: Ledger>(
     table: &mut TaskTable,
     cpu: Cpu,
     now: u64,
-    steps: &mut Steps<L>,
+    comparisons: &mut Steps<L>,
 ) -> Pick
     requires { MaySchedule now cpu (core.old, table.old) }
     ensures schedules { ChargesAndSchedules now
         (core.old, table.old) (core.new, table.new) cpu result
         (λ room. adopt_or_pick_anew room (may_adopt_by cpu (numbers_of (core.old, table.old))) cpu
         (sibling_of room cpu).waiting) }
-    ensures counted { ComparesForSchedule (core.old, table.old) steps.old steps.new }
+    ensures counted { ComparesForSchedule (core.old, table.old) comparisons.old comparisons.new }
 {
     if let Some(waiting) = adoptable(core, cpu) {
         return adopt(core, cpu, waiting);
     }
     charge(core, table, now);
-    pick_anew(core, table, cpu, now, steps)
+    pick_anew(core, table, cpu, now, comparisons)
 }
 
 /// The sibling schedules at `now`, in ns from the start (`pick_next_task`). `None` exactly if it is offline, and then
@@ -240,7 +240,7 @@ pub fn schedule<Q: SiblingQueue, L: Ledger>(
     table: &mut TaskTable,
     cpu: Cpu,
     now: u64,
-    steps: &mut Steps<L>,
+    comparisons: &mut Steps<L>,
 ) -> Option<Pick>
     requires { MaySchedule now cpu (core.old, table.old) }
     ensures online { (beside : Beside) →
@@ -251,12 +251,12 @@ pub fn schedule<Q: SiblingQueue, L: Ledger>(
         (λ room. schedule room (may_adopt_by cpu (numbers_of (core.old, table.old))) cpu)) }
 
     // How many comparisons the queues make for it, by the most tasks that a queue has.
-    ensures counted { ComparesForSchedule (core.old, table.old) steps.old steps.new }
+    ensures counted { ComparesForSchedule (core.old, table.old) comparisons.old comparisons.new }
 {
     if !core.is_online(cpu) {
         return None;
     }
-    let pick = adopt_or_pick_anew(core, table, cpu, now, steps);
+    let pick = adopt_or_pick_anew(core, table, cpu, now, comparisons);
     balance(core, table, cpu);
     Some(pick)
 }

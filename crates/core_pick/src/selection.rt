@@ -28,18 +28,18 @@ fn search_on<Q: SiblingQueue, L: Ledger>(
     table: &TaskTable,
     cookie: Cookie,
     cpu: Cpu,
-    steps: &mut Steps<L>,
+    comparisons: &mut Steps<L>,
 ) -> Option<Queued>
     requires { MaySearch (Q.holds lane.now.queue) cpu table.now }
     ensures { AsksOf Q.most_compared cpu table.now
         (result ≡ option_map queued_of (if cookie == 0 then None
         else first_of (with_cookie cookie (queued_among table.now.tasks cpu))))
-        steps.old steps.new }
+        comparisons.old comparisons.new }
 {
     if cookie == 0 {
         return None;
     }
-    lane.queue.first_with(cookie, table, cpu, steps)
+    lane.queue.first_with(cookie, table, cpu, comparisons)
 }
 
 /// Puts what a sibling gets for a core cookie in the place of its first, and gives the counts with it: that first, if
@@ -52,13 +52,13 @@ fn settle<Q: SiblingQueue, L: Ledger>(
     counts: Counts,
     cookie: Cookie,
     cpu: Cpu,
-    steps: &mut Steps<L>,
+    comparisons: &mut Steps<L>,
 ) -> Counts
     requires search { MaySearch (Q.holds lane.now.queue) cpu table.now }
     requires may { MayCount counts }
     ensures { AsksOf Q.most_compared cpu table.now
         (GetsCounted cpu cookie lane.now table.now counts result given.old given.new)
-        steps.old steps.new }
+        comparisons.old comparisons.new }
 {
     if given.is_idle() {
         return counts;
@@ -66,7 +66,7 @@ fn settle<Q: SiblingQueue, L: Ledger>(
     if given.cookie == cookie {
         return counts.with_task(lane.online);
     }
-    match search_on(lane, table, cookie, cpu, steps) {
+    match search_on(lane, table, cookie, cpu, comparisons) {
         Some(queued) => {
             *given = Choice::of(&queued);
             counts.with_task(lane.online)
@@ -84,14 +84,14 @@ pub fn choose<Q: SiblingQueue, L: Ledger>(
     core: &Core<Q>,
     table: &TaskTable,
     cookie: Cookie,
-    steps: &mut Steps<L>,
+    comparisons: &mut Steps<L>,
 ) -> Counts
     requires agree { Agree (core.now, table.now) }
     requires firsts { (beside : Beside) →
         choices.old ≡ firsts_of (room_of beside (core.now, table.now)) }
     ensures gets { GetAll cookie (core.now, table.now) choices.new result }
     ensures counted { Compares (core.now, table.now)
-        (λ most. steps.new ≤ steps.old + length core.now.lanes.items * most) }
+        (λ most. comparisons.new ≤ comparisons.old + length core.now.lanes.items * most) }
 {
     let lanes = core.lanes.as_slice();
     let mut counts = Counts {
@@ -99,7 +99,15 @@ pub fn choose<Q: SiblingQueue, L: Ledger>(
         occupation: 0,
     };
     for (cpu, choice) in choices.iter_mut().enumerate() {
-        counts = settle(&lanes[cpu], table, choice, counts, cookie, cpu as u8, steps);
+        counts = settle(
+            &lanes[cpu],
+            table,
+            choice,
+            counts,
+            cookie,
+            cpu as u8,
+            comparisons,
+        );
     }
     counts
 }
@@ -112,13 +120,13 @@ pub fn first_at<Q: SiblingQueue, L: Ledger>(
     core: &Core<Q>,
     table: &TaskTable,
     cpu: Cpu,
-    steps: &mut Steps<L>,
+    comparisons: &mut Steps<L>,
 ) -> First
     requires { MayAsk cpu (core.now, table.now) }
     ensures { AsksOnce cpu (core.now, table.now) (KeepsFirst cpu (core.now, table.now) result)
-        steps.old steps.new }
+        comparisons.old comparisons.new }
 {
-    let first = core.first_on(table, cpu, steps);
+    let first = core.first_on(table, cpu, comparisons);
     first_kept(first.as_ref(), core.lanes[cpu as usize].snapshot)
 }
 
@@ -160,17 +168,17 @@ fn ask_from<Q: SiblingQueue, L: Ledger>(
     from: Cpu,
     to: Cpu,
     before: First,
-    steps: &mut Steps<L>,
+    comparisons: &mut Steps<L>,
 ) -> First
     requires many { length firsts.old ≡ length core.now.lanes.items }
     requires part { MayAskPart from to (core.now, table.now) }
     ensures asks { AsksPart from to (core.now, table.now) firsts.old firsts.new before result }
     ensures counted { Compares (core.now, table.now)
-        (λ most. steps.new ≤ steps.old + (to - from) * most) }
+        (λ most. comparisons.new ≤ comparisons.old + (to - from) * most) }
 {
     let mut lead = before;
     for cpu in from..to {
-        let first = first_at(core, table, cpu, steps);
+        let first = first_at(core, table, cpu, comparisons);
         firsts[cpu as usize] = first.choice;
         lead = lead_with(core, cpu, lead, first);
     }
@@ -186,19 +194,19 @@ pub fn ask<Q: SiblingQueue, L: Ledger>(
     table: &TaskTable,
     own: Cpu,
     first: &First,
-    steps: &mut Steps<L>,
+    comparisons: &mut Steps<L>,
 ) -> Cookie
     requires many { length firsts.old ≡ length core.now.lanes.items }
     requires may { MayAsk own (core.now, table.now) }
     requires first { KeepsFirst own (core.now, table.now) first.now }
     ensures asks { AsksAll own (core.now, table.now) firsts.new result }
     ensures counted { Compares (core.now, table.now)
-        (λ most. steps.new + most ≤ steps.old + length core.now.lanes.items * most) }
+        (λ most. comparisons.new + most ≤ comparisons.old + length core.now.lanes.items * most) }
 {
     firsts[own as usize] = first.choice;
     let offer = lead_alone(core, own, first);
     let count = core.lanes.len() as u8;
-    let behind = ask_from(firsts, core, table, own + 1, count, offer, steps);
-    let lead = ask_from(firsts, core, table, 0, own, behind, steps);
+    let behind = ask_from(firsts, core, table, own + 1, count, offer, comparisons);
+    let lead = ask_from(firsts, core, table, 0, own, behind, comparisons);
     lead.choice.cookie
 }

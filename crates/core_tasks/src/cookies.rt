@@ -54,51 +54,52 @@ impl<Q: SiblingQueue, G: Guard> State<Q, G> {
     /// The task has the cookie, with a reference of its own, and if it runs, its sibling becomes
     /// pending.
     #[inline(always)]
-    fn set_cookie<L: Ledger>(&mut self, task: &Task, cookie: Cookie, steps: &mut Steps<L>)
+    fn set_cookie<L: Ledger>(&mut self, task: &Task, cookie: Cookie, comparisons: &mut Steps<L>)
         requires { MaySetOne cookie self.old task.now }
         ensures sets { SetsCookies self.old self.new (task.now ∷ []) cookie }
-        ensures counted { ComparesFor 1 (both self.old) steps.old steps.new }
+        ensures counted { ComparesFor 1 (both self.old) comparisons.old comparisons.new }
     {
         self.refs.exchange(task.cookie, cookie);
-        self.core.set_cookie(&mut self.tasks, task, cookie, steps);
+        self.core
+            .set_cookie(&mut self.tasks, task, cookie, comparisons);
         self.core.task_number += touches(task, cookie);
         flag_home(&mut self.core.lanes, task.home, task.spec.pid);
     }
 
     /// The members of the group have the cookie, by rising pid.
-    fn set_group<L: Ledger>(&mut self, group: Group, cookie: Cookie, steps: &mut Steps<L>)
+    fn set_group<L: Ledger>(&mut self, group: Group, cookie: Cookie, comparisons: &mut Steps<L>)
         requires { MaySet cookie (2 * length self.old.tasks.tasks + 2) self.old }
         ensures sets { SetsCookies self.old self.new
             (group_above group 0 self.old.tasks.tasks) cookie }
         ensures counted { ComparesFor (length self.old.tasks.tasks)
-            (both self.old) steps.old steps.new }
+            (both self.old) comparisons.old comparisons.new }
     {
         let mut after = self.tasks.below(group);
         for _ in 0..self.tasks.most_in(group) {
             let Some(task) = self.tasks.next_in(group, after).copied() else {
                 return;
             };
-            self.set_cookie(&task, cookie, steps);
+            self.set_cookie(&task, cookie, comparisons);
             after = task.spec.pid;
         }
     }
 
     /// The tasks that the target names have the cookie.
-    fn set_cookies<L: Ledger>(&mut self, to: Target, cookie: Cookie, steps: &mut Steps<L>)
+    fn set_cookies<L: Ledger>(&mut self, to: Target, cookie: Cookie, comparisons: &mut Steps<L>)
         requires { MaySet cookie (2 * length self.old.tasks.tasks + 2) self.old }
         ensures sets { SetsCookies self.old self.new (named to self.old.tasks.tasks) cookie }
         ensures counted { ComparesFor (length self.old.tasks.tasks)
-            (both self.old) steps.old steps.new }
+            (both self.old) comparisons.old comparisons.new }
     {
         match to {
             Target::Nobody => {}
             Target::One(pid) => {
                 if let Some(task) = task_of(&self.tasks, pid) {
-                    self.set_cookie(&task, cookie, steps);
+                    self.set_cookie(&task, cookie, comparisons);
                 }
             }
-            Target::Threads(tgid) => self.set_group(Group::Threads(tgid), cookie, steps),
-            Target::Process(pgid) => self.set_group(Group::Process(pgid), cookie, steps),
+            Target::Threads(tgid) => self.set_group(Group::Threads(tgid), cookie, comparisons),
+            Target::Process(pgid) => self.set_group(Group::Process(pgid), cookie, comparisons),
         }
     }
 
@@ -108,12 +109,12 @@ impl<Q: SiblingQueue, G: Guard> State<Q, G> {
         smt_off: bool,
         pid: Pid,
         ask: Ask,
-        steps: &mut Steps<L>,
+        comparisons: &mut Steps<L>,
     ) -> Reply
         requires { MayCall smt_off self.old }
         ensures makes { Makes self.old self.new (Prctl pid ask) result }
         ensures counted { ComparesFor (length self.old.tasks.tasks)
-            (both self.old) steps.old steps.new }
+            (both self.old) comparisons.old comparisons.new }
     {
         let planned = plan(
             &self.tasks,
@@ -127,7 +128,7 @@ impl<Q: SiblingQueue, G: Guard> State<Q, G> {
         match planned {
             Planned::Answer(reply) => reply,
             Planned::Go(decision) => {
-                self.set_cookies(decision.to, decision.cookie, steps);
+                self.set_cookies(decision.to, decision.cookie, comparisons);
                 self.refs.put(decision.cookie);
                 decision.reply
             }

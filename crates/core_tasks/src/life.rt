@@ -17,13 +17,13 @@ use std::sync::ledger::Ledger;
 impl<Q: SiblingQueue, G: Guard> State<Q, G> {
     /// The task is no longer among the living, and is the last of the ended, with what it was charged.
     #[inline(always)]
-    pub fn end<L: Ledger>(&mut self, task: Task, steps: &mut Steps<L>)
+    pub fn end<L: Ledger>(&mut self, task: Task, comparisons: &mut Steps<L>)
         requires { MayEnd task self.old }
         ensures touches { Touches 1 self.old self.new (λ room. without room task) }
-        ensures counted { ComparesFor 2 (both self.old) steps.old steps.new }
+        ensures counted { ComparesFor 2 (both self.old) comparisons.old comparisons.new }
     {
         self.core
-            .put_to_sleep(&mut self.tasks, task.spec.pid, steps);
+            .put_to_sleep(&mut self.tasks, task.spec.pid, comparisons);
         let (_, forced) = end(&mut self.tasks, &mut self.refs, task.spec.pid).unwrap();
         self.ended.push((task.spec.pid, forced));
     }

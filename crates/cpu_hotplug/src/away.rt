@@ -60,7 +60,7 @@ pub fn lowest_other<Q: SiblingQueue>(core: &Core<Q>, cpu: Cpu) -> Cpu
 }
 
 /// The sibling is offline, and runs idle while it is.
-fn set_away<Q: Drop>(lane: &mut Lane<Q>)
+fn away<Q: Drop>(lane: &mut Lane<Q>)
     ensures { ChangesLane lane.old lane.new away }
 {
     lane.online = false;
@@ -85,7 +85,7 @@ pub fn set_one_away<Q: Drop>(lanes: &mut [Lane<Q>], cpu: Cpu)
 {
     for (other, lane) in lanes.iter_mut().enumerate() {
         if other == cpu as usize {
-            set_away(lane);
+            away(lane);
         } else {
             stand_by(lane);
         }
@@ -93,7 +93,7 @@ pub fn set_one_away<Q: Drop>(lanes: &mut [Lane<Q>], cpu: Cpu)
 }
 
 /// The sibling is online again, runs idle and is pending.
-pub fn set_back<Q: Drop>(lane: &mut Lane<Q>)
+pub fn back<Q: Drop>(lane: &mut Lane<Q>)
     ensures { ChangesLane lane.old lane.new back }
 {
     lane.online = true;

@@ -9,7 +9,7 @@ ghost use Rattle.core_lanes.specs.Charges.{ChargesAndTouches};
 ghost use Rattle.core_lanes.specs.Comparisons.{ComparesFor};
 ghost use Rattle.cpu_hotplug.specs.Hotplugs.{MayLeave, MayLeaveAnother, TakesOffline, BringsOnline};
 
-use crate::away::{online_count, set_back, set_one_away};
+use crate::away::{back, online_count, set_one_away};
 use crate::moves::move_off;
 use core_lanes::{Core, SiblingQueue, charge};
 use cs_types::{Cpu, Steps};
@@ -34,17 +34,17 @@ fn leave<Q: SiblingQueue, L: Ledger>(
     table: &mut TaskTable,
     cpu: Cpu,
     now: u64,
-    steps: &mut Steps<L>,
+    comparisons: &mut Steps<L>,
 )
     requires { MayLeaveAnother now cpu (core.old, table.old) }
     ensures touches { ChargesAndTouches now (2 * length (queued_among table.old.tasks cpu))
         (core.old, table.old) (core.new, table.new) (λ room. leave room cpu) }
     ensures counted { ComparesFor (length table.old.tasks + 1)
-        (core.old, table.old) steps.old steps.new }
+        (core.old, table.old) comparisons.old comparisons.new }
 {
     charge(core, table, now);
     core.account.close();
-    move_off(core, table, cpu, steps);
+    move_off(core, table, cpu, comparisons);
     set_one_away(&mut core.lanes, cpu);
 }
 
@@ -54,12 +54,12 @@ pub fn offline<Q: SiblingQueue, L: Ledger>(
     table: &mut TaskTable,
     cpu: Cpu,
     now: u64,
-    steps: &mut Steps<L>,
+    comparisons: &mut Steps<L>,
 ) -> Hotplug
     requires { MayLeave now cpu (core.old, table.old) }
     ensures leaves { TakesOffline now (core.old, table.old) (core.new, table.new) cpu result }
     ensures counted { ComparesFor (length table.old.tasks + 1)
-        (core.old, table.old) steps.old steps.new }
+        (core.old, table.old) comparisons.old comparisons.new }
 {
     if !core.is_online(cpu) {
         return Hotplug::Already;
@@ -67,7 +67,7 @@ pub fn offline<Q: SiblingQueue, L: Ledger>(
     if online_count(core) == 1 {
         return Hotplug::Busy;
     }
-    leave(core, table, cpu, now, steps);
+    leave(core, table, cpu, now, comparisons);
     Hotplug::Done
 }
 
@@ -79,6 +79,6 @@ pub fn online<Q: SiblingQueue>(core: &mut Core<Q>, cpu: Cpu) -> Hotplug
     if core.is_online(cpu) {
         return Hotplug::Already;
     }
-    set_back(&mut core.lanes[cpu as usize]);
+    back(&mut core.lanes[cpu as usize]);
     Hotplug::Done
 }

@@ -25,13 +25,13 @@ pub fn move_off<Q: SiblingQueue, L: Ledger>(
     core: &mut Core<Q>,
     table: &mut TaskTable,
     cpu: Cpu,
-    steps: &mut Steps<L>,
+    comparisons: &mut Steps<L>,
 )
     requires { MayMoveOff cpu (core.old, table.old) }
     ensures touches { Touches (2 * length (queued_among table.old.tasks cpu))
         (core.old, table.old) (core.new, table.new) (λ room. move_off room cpu) }
     ensures counted { ComparesFor (length table.old.tasks + 1)
-        (core.old, table.old) steps.old steps.new }
+        (core.old, table.old) comparisons.old comparisons.new }
 {
     let count = core.lanes[cpu as usize].queue.count(table, cpu);
     if count == 0 {
@@ -41,10 +41,10 @@ pub fn move_off<Q: SiblingQueue, L: Ledger>(
     let stay = core.lanes[to as usize].queue.count(table, to);
     let mut places = [0; MOST_TASKS];
     let movers = &mut places[..count as usize];
-    if count >= MANY && stay <= count / TIMES && are_ahead(core, table, cpu, steps) {
-        move_past(core, table, cpu, to, movers, stay, steps);
+    if count >= MANY && stay <= count / TIMES && are_ahead(core, table, cpu, comparisons) {
+        move_past(core, table, cpu, to, movers, stay, comparisons);
     } else {
-        move_each(core, table, cpu, to, movers, steps);
+        move_each(core, table, cpu, to, movers, comparisons);
     }
 }
 
@@ -54,14 +54,14 @@ fn are_ahead<Q: SiblingQueue, L: Ledger>(
     core: &Core<Q>,
     table: &TaskTable,
     cpu: Cpu,
-    steps: &mut Steps<L>,
+    comparisons: &mut Steps<L>,
 ) -> bool
     requires { AgreesAt cpu (core.now, table.now) }
     ensures ahead { IsTrue result → AreAhead cpu (core.now, table.now) }
-    ensures counted { ComparesFor 1 (core.now, table.now) steps.old steps.new }
+    ensures counted { ComparesFor 1 (core.now, table.now) comparisons.old comparisons.new }
 {
     let lane = &core.lanes[cpu as usize];
-    match lane.queue.smallest_vtime(table, cpu, steps) {
+    match lane.queue.smallest_vtime(table, cpu, comparisons) {
         Some(smallest) => lane.least <= smallest,
         None => true,
     }
@@ -73,14 +73,14 @@ fn first_task<Q: SiblingQueue, L: Ledger>(
     core: &Core<Q>,
     table: &TaskTable,
     cpu: Cpu,
-    steps: &mut Steps<L>,
+    comparisons: &mut Steps<L>,
 ) -> Task
     requires at { AgreesAt cpu (core.now, table.now) }
     requires some { queued_among table.now.tasks cpu ≢ [] }
     ensures first { IsQueuedAt cpu table.now.tasks result }
-    ensures counted { ComparesFor 1 (core.now, table.now) steps.old steps.new }
+    ensures counted { ComparesFor 1 (core.now, table.now) comparisons.old comparisons.new }
 {
-    let first = core.first_on(table, cpu, steps).unwrap();
+    let first = core.first_on(table, cpu, comparisons).unwrap();
     task_of(table, first.pid).unwrap()
 }
 
@@ -93,23 +93,24 @@ fn move_past<Q: SiblingQueue, L: Ledger>(
     to: Cpu,
     movers: &mut [Pid],
     stay: u32,
-    steps: &mut Steps<L>,
+    comparisons: &mut Steps<L>,
 )
     requires { MayMovePast cpu to stay movers.old (core.old, table.old) }
     ensures touches { Touches (2 * length (queued_among table.old.tasks cpu))
         (core.old, table.old) (core.new, table.new) (λ room. move_off room cpu) }
-    ensures counted { ComparesFor (5 * stay + 3) (core.old, table.old) steps.old steps.new }
+    ensures counted { ComparesFor (5 * stay + 3) (core.old, table.old)
+        comparisons.old comparisons.new }
 {
     if stay == 0 {
-        move_queue(core, table, cpu, to, movers, steps);
+        move_queue(core, table, cpu, to, movers, comparisons);
         return;
     }
-    let task = first_task(core, table, to, steps);
+    let task = first_task(core, table, to, comparisons);
     let mut asleep = task;
     asleep.queued = false;
-    core.change(table, asleep, steps);
-    move_past(core, table, cpu, to, movers, stay - 1, steps);
-    core.change(table, task, steps);
+    core.change(table, asleep, comparisons);
+    move_past(core, table, cpu, to, movers, stay - 1, comparisons);
+    core.change(table, task, comparisons);
 }
 
 /// The tasks move with their queue, which changes places with that of the other sibling. The list, which has as many
@@ -120,17 +121,17 @@ fn move_queue<Q: SiblingQueue, L: Ledger>(
     cpu: Cpu,
     to: Cpu,
     movers: &mut [Pid],
-    steps: &mut Steps<L>,
+    comparisons: &mut Steps<L>,
 )
     requires to { MayMoveAllTo cpu to movers.old (core.old, table.old) }
     requires whole { MovesWhole cpu to (core.old, table.old) }
     ensures touches { Touches (2 * length (queued_among table.old.tasks cpu))
         (core.old, table.old) (core.new, table.new) (λ room. move_off room cpu) }
-    ensures counted { ComparesFor 3 (core.old, table.old) steps.old steps.new }
+    ensures counted { ComparesFor 3 (core.old, table.old) comparisons.old comparisons.new }
 {
     core.tell_queued(table, cpu, movers);
     core.place(table, movers, cpu, to);
-    core.exchange(table, cpu, to, movers, steps);
+    core.exchange(table, cpu, to, movers, comparisons);
 }
 
 /// The tasks move one by one. The list, which has as many places, gets their pids.
@@ -140,16 +141,16 @@ fn move_each<Q: SiblingQueue, L: Ledger>(
     cpu: Cpu,
     to: Cpu,
     movers: &mut [Pid],
-    steps: &mut Steps<L>,
+    comparisons: &mut Steps<L>,
 )
     requires { MayMoveAllTo cpu to movers.old (core.old, table.old) }
     ensures touches { Touches (2 * length (queued_among table.old.tasks cpu))
         (core.old, table.old) (core.new, table.new) (λ room. move_off room cpu) }
     ensures counted { ComparesFor (length table.old.tasks)
-        (core.old, table.old) steps.old steps.new }
+        (core.old, table.old) comparisons.old comparisons.new }
 {
     core.empty_queue(table, cpu, movers);
     for mover in movers.iter() {
-        core.enter(table, *mover, cpu, to, steps);
+        core.enter(table, *mover, cpu, to, comparisons);
     }
 }

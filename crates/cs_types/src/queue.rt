@@ -57,26 +57,29 @@ pub trait ClassQueue: Drop {
         ensures err { OnErr result (spare self.new ≡ spare self.old) };
 
     /// Puts a task at a key where none is.
-    fn put<L: Ledger>(&mut self, rank: u128, stamp: u64, pid: Pid, steps: &mut Steps<L>)
+    fn put<L: Ledger>(&mut self, rank: u128, stamp: u64, pid: Pid, comparisons: &mut Steps<L>)
         requires spare { 0 < spare self.old }
         requires free { map.get (members self.old) (rank, stamp) ≡ None }
         ensures members { members self.new ≡ map.insert (members self.old) (rank, stamp) pid }
         ensures spare { spare self.new + 1 ≡ spare self.old }
-        ensures counted { steps.new ≤ steps.old + most_comparisons (map.len (members self.old)) };
+        ensures counted { comparisons.new
+            ≤ comparisons.old + most_comparisons (map.len (members self.old)) };
 
     /// Takes the task at a key out. `false` comes exactly if none is there, and then nothing
     /// changes.
-    fn take<L: Ledger>(&mut self, rank: u128, stamp: u64, steps: &mut Steps<L>) -> bool
+    fn take<L: Ledger>(&mut self, rank: u128, stamp: u64, comparisons: &mut Steps<L>) -> bool
         ensures found { result ≡ map.contains_key (members self.old) (rank, stamp) }
         ensures members { members self.new ≡ map.remove (members self.old) (rank, stamp) }
         ensures spare { spare self.new ≡ spare self.old + (if result then 1 else 0) }
-        ensures counted { steps.new ≤ steps.old + most_comparisons (map.len (members self.old)) };
+        ensures counted { comparisons.new
+            ≤ comparisons.old + most_comparisons (map.len (members self.old)) };
 
     /// The task with the least rank, and among those with the least stamp. `None` exactly if there is
     /// no task.
-    fn top<L: Ledger>(&self, steps: &mut Steps<L>) -> Option<Pid>
+    fn top<L: Ledger>(&self, comparisons: &mut Steps<L>) -> Option<Pid>
         ensures top { result ≡ top_of (members self.now) }
-        ensures counted { steps.new ≤ steps.old + most_comparisons (map.len (members self.now)) };
+        ensures counted { comparisons.new
+            ≤ comparisons.old + most_comparisons (map.len (members self.now)) };
 
     /// How many tasks there are.
     fn len(&self) -> u32

@@ -112,30 +112,32 @@ impl OrderTree {
 impl<A> OrderTree<A> {
     /// Puts a pid at a key where none is.
     #[inline(always)]
-    pub fn insert<L: Ledger>(&mut self, key: Key, pid: Pid, steps: &mut Steps<L>)
+    pub fn insert<L: Ledger>(&mut self, key: Key, pid: Pid, comparisons: &mut Steps<L>)
         requires spare { 0 < self.old.spare }
         requires free { map.get self.old.members key ≡ None }
         ensures members { self.new.members ≡ map.insert self.old.members key pid }
         ensures spare { self.new.spare + 1 ≡ self.old.spare }
-        ensures counted { steps.new ≤ steps.old + 2 * digits (map.len self.old.members) }
+        ensures counted { comparisons.new
+            ≤ comparisons.old + 2 * digits (map.len self.old.members) }
     {
-        take_lesser(&mut self.first, key, pid, steps);
+        take_lesser(&mut self.first, key, pid, comparisons);
         let mut node = self.nodes.pop().unwrap();
         node.hold(key, pid);
-        self.tree.insert(node, steps);
+        self.tree.insert(node, comparisons);
         self.count += 1;
         self.spare -= 1;
     }
 
     /// Takes out the pid at a key. `false` comes exactly if none is there, and then nothing changes.
-    pub fn remove<L: Ledger>(&mut self, key: &Key, steps: &mut Steps<L>) -> bool
+    pub fn remove<L: Ledger>(&mut self, key: &Key, comparisons: &mut Steps<L>) -> bool
         ensures found { result ≡ map.contains_key self.old.members key.now }
         ensures members { self.new.members ≡ map.remove self.old.members key.now }
         ensures spare { self.new.spare ≡ self.old.spare + (if result then 1 else 0) }
-        ensures counted { steps.new ≤ steps.old + 2 * digits (map.len self.old.members) }
+        ensures counted { comparisons.new
+            ≤ comparisons.old + 2 * digits (map.len self.old.members) }
     {
         let mut taken = None;
-        self.tree.remove(key, &mut taken, steps);
+        self.tree.remove(key, &mut taken, comparisons);
         let Some(node) = taken else {
             return false;
         };
@@ -198,29 +200,32 @@ impl<A> OrderTree<A> {
 
     /// The least key that is not below this one, and the pid there. `None` exactly if each key is
     /// below it.
-    pub fn first_from<L: Ledger>(&self, key: &Key, steps: &mut Steps<L>) -> Option<(Key, Pid)>
+    pub fn first_from<L: Ledger>(&self, key: &Key, comparisons: &mut Steps<L>) -> Option<(Key, Pid)>
         ensures first { result ≡ first_from self.now.members key.now }
-        ensures counted { steps.new ≤ steps.old + 2 * digits (map.len self.now.members) }
+        ensures counted { comparisons.new
+            ≤ comparisons.old + 2 * digits (map.len self.now.members) }
     {
-        entry_of(self.tree.seek(key, true, steps))
+        entry_of(self.tree.seek(key, true, comparisons))
     }
 
     /// The least key that is of this group or of a greater one, and the pid there. `None` exactly if each key is of a
     /// lesser group.
     #[inline(always)]
-    pub fn first_in<L: Ledger>(&self, group: u64, steps: &mut Steps<L>) -> Option<(&Key, Pid)>
+    pub fn first_in<L: Ledger>(&self, group: u64, comparisons: &mut Steps<L>) -> Option<(&Key, Pid)>
         ensures first { lent result ≡ first_from self.now.members (start_of group) }
-        ensures counted { steps.new ≤ steps.old + 2 * digits (map.len self.now.members) }
+        ensures counted { comparisons.new
+            ≤ comparisons.old + 2 * digits (map.len self.now.members) }
     {
-        lend(self.tree.first_in(group, steps))
+        lend(self.tree.first_in(group, comparisons))
     }
 
     /// The least key that is above this one, and the pid there. `None` exactly if no key is above it.
-    pub fn next<L: Ledger>(&self, key: &Key, steps: &mut Steps<L>) -> Option<(Key, Pid)>
+    pub fn next<L: Ledger>(&self, key: &Key, comparisons: &mut Steps<L>) -> Option<(Key, Pid)>
         ensures next { result ≡ next_of self.now.members key.now }
-        ensures counted { steps.new ≤ steps.old + 2 * digits (map.len self.now.members) }
+        ensures counted { comparisons.new
+            ≤ comparisons.old + 2 * digits (map.len self.now.members) }
     {
-        entry_of(self.tree.seek(key, false, steps))
+        entry_of(self.tree.seek(key, false, comparisons))
     }
 
     /// How many keys there are.
@@ -248,11 +253,11 @@ fn free_all(count: &mut u32, spare: &mut u32)
 pub fn lesser<L: Ledger>(
     one: Option<(Key, Pid)>,
     other: Option<(Key, Pid)>,
-    steps: &mut Steps<L>,
+    comparisons: &mut Steps<L>,
 ) -> Option<(Key, Pid)>
     ensures lesser { result ≡ lesser one other }
-    ensures counted { steps.new ≤ steps.old + 1 }
-    ensures alone { other ≡ None → steps.new ≡ steps.old }
+    ensures counted { comparisons.new ≤ comparisons.old + 1 }
+    ensures alone { other ≡ None → comparisons.new ≡ comparisons.old }
 {
     let Some(left) = one else {
         return other;
@@ -260,7 +265,7 @@ pub fn lesser<L: Ledger>(
     let Some(right) = other else {
         return one;
     };
-    steps.tick();
+    comparisons.tick();
     if left.0.is_below(&right.0) {
         one
     } else {
@@ -273,10 +278,10 @@ pub fn lesser<L: Ledger>(
 pub fn lesser_lent<'a, L: Ledger>(
     one: Option<(&'a Key, Pid)>,
     other: Option<(&'a Key, Pid)>,
-    steps: &mut Steps<L>,
+    comparisons: &mut Steps<L>,
 ) -> Option<(&'a Key, Pid)>
     ensures lesser { lent result ≡ lesser (lent one.entry) (lent other.entry) }
-    ensures counted { steps.new ≤ steps.old + 1 }
+    ensures counted { comparisons.new ≤ comparisons.old + 1 }
 {
     let Some(left) = one else {
         return other;
@@ -284,19 +289,24 @@ pub fn lesser_lent<'a, L: Ledger>(
     let Some(right) = other else {
         return one;
     };
-    steps.tick();
+    comparisons.tick();
     if left.0.is_below(right.0) { one } else { other }
 }
 
 /// Writes an entry where none is, or over one with a greater key.
 #[inline(always)]
-fn take_lesser<L: Ledger>(first: &mut Option<(Key, Pid)>, key: Key, pid: Pid, steps: &mut Steps<L>)
+fn take_lesser<L: Ledger>(
+    first: &mut Option<(Key, Pid)>,
+    key: Key,
+    pid: Pid,
+    comparisons: &mut Steps<L>,
+)
     ensures lesser { first.new ≡ lesser (Some (key, pid)) first.old }
-    ensures counted { steps.new ≤ steps.old + 1 }
-    ensures alone { first.old ≡ None → steps.new ≡ steps.old }
+    ensures counted { comparisons.new ≤ comparisons.old + 1 }
+    ensures alone { first.old ≡ None → comparisons.new ≡ comparisons.old }
 {
     if let Some((least, _)) = first {
-        steps.tick();
+        comparisons.tick();
         if !key.is_below(least) {
             return;
         }

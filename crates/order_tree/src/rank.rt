@@ -65,35 +65,38 @@ impl RankTree {
 impl<A> RankTree<A> {
     /// Puts a task at a key where none is.
     #[inline(always)]
-    pub fn put<L: Ledger>(&mut self, rank: u128, stamp: u64, pid: Pid, steps: &mut Steps<L>)
+    pub fn put<L: Ledger>(&mut self, rank: u128, stamp: u64, pid: Pid, comparisons: &mut Steps<L>)
         requires spare { 0 < self.old.spare }
         requires free { get self.old.members (rank, stamp) ≡ None }
         ensures members { self.new.members ≡ insert self.old.members (rank, stamp) pid }
         ensures spare { self.new.spare + 1 ≡ self.old.spare }
-        ensures counted { steps.new ≤ steps.old + most_comparisons (len self.old.members) }
+        ensures counted { comparisons.new
+            ≤ comparisons.old + most_comparisons (len self.old.members) }
     {
-        self.tree.insert(key(rank, stamp), pid, steps);
+        self.tree.insert(key(rank, stamp), pid, comparisons);
     }
 
     /// Takes the task at a key out. `false` comes exactly if none is there, and then nothing
     /// changes.
-    pub fn take<L: Ledger>(&mut self, rank: u128, stamp: u64, steps: &mut Steps<L>) -> bool
+    pub fn take<L: Ledger>(&mut self, rank: u128, stamp: u64, comparisons: &mut Steps<L>) -> bool
         ensures found { result ≡ contains_key self.old.members (rank, stamp) }
         ensures members { self.new.members ≡ remove self.old.members (rank, stamp) }
         ensures spare { self.new.spare ≡ self.old.spare + (if result then 1 else 0) }
-        ensures counted { steps.new ≤ steps.old + most_comparisons (len self.old.members) }
+        ensures counted { comparisons.new
+            ≤ comparisons.old + most_comparisons (len self.old.members) }
     {
-        self.tree.remove(&key(rank, stamp), steps)
+        self.tree.remove(&key(rank, stamp), comparisons)
     }
 
     /// The task with the least rank, and among those with the least stamp. `None` exactly if there is
     /// no task.
     #[inline(always)]
-    pub fn top<L: Ledger>(&self, steps: &mut Steps<L>) -> Option<Pid>
+    pub fn top<L: Ledger>(&self, comparisons: &mut Steps<L>) -> Option<Pid>
         ensures top { result ≡ top_of self.now.members }
-        ensures counted { steps.new ≤ steps.old + most_comparisons (len self.now.members) }
+        ensures counted { comparisons.new
+            ≤ comparisons.old + most_comparisons (len self.now.members) }
     {
-        let first = self.tree.first(steps)?;
+        let first = self.tree.first(comparisons)?;
         Some(first.1)
     }
 
@@ -120,26 +123,28 @@ impl<A> RankTree<A> {
         later: u128,
         stamp: u64,
         pid: Pid,
-        steps: &mut Steps<L>,
+        comparisons: &mut Steps<L>,
     )
         requires there { IsTrue (contains_key self.old.members (rank, stamp)) }
         requires free { get (remove self.old.members (rank, stamp)) (later, stamp) ≡ None }
         ensures members { self.new.members
             ≡ insert (remove self.old.members (rank, stamp)) (later, stamp) pid }
         ensures spare { self.new.spare ≡ self.old.spare }
-        ensures counted { steps.new ≤ steps.old + most_comparisons (len self.old.members)
+        ensures counted { comparisons.new
+            ≤ comparisons.old + most_comparisons (len self.old.members)
             + most_comparisons (len (remove self.old.members (rank, stamp))) }
     {
-        self.tree.set_rank(&key(rank, stamp), later, pid, steps);
+        self.tree
+            .set_rank(&key(rank, stamp), later, pid, comparisons);
     }
 
     /// The least rank. `None` exactly if there is no task.
     #[inline(always)]
-    pub fn least_rank<L: Ledger>(&self, steps: &mut Steps<L>) -> Option<u128>
+    pub fn least_rank<L: Ledger>(&self, comparisons: &mut Steps<L>) -> Option<u128>
         ensures least { result ≡ least_rank self.now.members }
-        ensures counted { steps.new ≤ steps.old + 1 }
+        ensures counted { comparisons.new ≤ comparisons.old + 1 }
     {
-        self.tree.least_rank(steps)
+        self.tree.least_rank(comparisons)
     }
 
     /// Hands over each task by its stamp and its pid, in any order.
@@ -152,15 +157,16 @@ impl<A> RankTree<A> {
     }
 
     /// Each task gets the rank and the stamp that it has now, with which they stand in the same order.
-    pub fn renew<R: Renewal, L: Ledger>(&mut self, renewal: &R, steps: &mut Steps<L>)
+    pub fn renew<R: Renewal, L: Ledger>(&mut self, renewal: &R, comparisons: &mut Steps<L>)
         requires rising { IsTrue
             (is_sorted key_cmp (map (reranked (R.at renewal.now)) (entries self.old.members))) }
         ensures entries { entries self.new.members
             ≡ map (reranked (R.at renewal.now)) (entries self.old.members) }
         ensures spare { self.new.spare ≡ self.old.spare }
-        ensures counted { steps.new ≤ steps.old + most_comparisons (len self.old.members) }
+        ensures counted { comparisons.new
+            ≤ comparisons.old + most_comparisons (len self.old.members) }
     {
-        self.tree.renew(renewal, steps);
+        self.tree.renew(renewal, comparisons);
     }
 }
 
@@ -174,17 +180,17 @@ impl ClassQueue for RankTree {
     }
 
     #[inline(always)]
-    fn put<L: Ledger>(&mut self, rank: u128, stamp: u64, pid: Pid, steps: &mut Steps<L>) {
-        RankTree::put(self, rank, stamp, pid, steps);
+    fn put<L: Ledger>(&mut self, rank: u128, stamp: u64, pid: Pid, comparisons: &mut Steps<L>) {
+        RankTree::put(self, rank, stamp, pid, comparisons);
     }
 
-    fn take<L: Ledger>(&mut self, rank: u128, stamp: u64, steps: &mut Steps<L>) -> bool {
-        RankTree::take(self, rank, stamp, steps)
+    fn take<L: Ledger>(&mut self, rank: u128, stamp: u64, comparisons: &mut Steps<L>) -> bool {
+        RankTree::take(self, rank, stamp, comparisons)
     }
 
     #[inline(always)]
-    fn top<L: Ledger>(&self, steps: &mut Steps<L>) -> Option<Pid> {
-        RankTree::top(self, steps)
+    fn top<L: Ledger>(&self, comparisons: &mut Steps<L>) -> Option<Pid> {
+        RankTree::top(self, comparisons)
     }
 
     fn len(&self) -> u32 {

@@ -87,68 +87,78 @@ impl<A> RecentTree<A> {
     /// Puts a pid at a key where none is. If it stands after the one beside the tree in order, it goes into the tree:
     /// the other is the one that is likely to run, and then its key changes next.
     #[inline(always)]
-    pub fn insert<L: Ledger>(&mut self, key: Key, pid: Pid, steps: &mut Steps<L>)
+    pub fn insert<L: Ledger>(&mut self, key: Key, pid: Pid, comparisons: &mut Steps<L>)
         requires spare { 0 < self.old.spare }
         requires free { map.get self.old.members key ≡ None }
         ensures members { self.new.members ≡ map.insert self.old.members key pid }
         ensures spare { self.new.spare + 1 ≡ self.old.spare }
-        ensures counted { steps.new ≤ steps.old + most_comparisons (map.len self.old.members) }
+        ensures counted { comparisons.new
+            ≤ comparisons.old + most_comparisons (map.len self.old.members) }
     {
-        if is_past(&self.recent, &key, steps) {
-            self.tree.insert(key, pid, steps);
+        if is_past(&self.recent, &key, comparisons) {
+            self.tree.insert(key, pid, comparisons);
             return;
         }
-        self.put_beside(key, pid, steps);
+        self.put_beside(key, pid, comparisons);
     }
 
     /// Puts a pid at a key where none is. It stands beside the tree then, and what stood there goes into it.
     #[inline(always)]
-    fn put_beside<L: Ledger>(&mut self, key: Key, pid: Pid, steps: &mut Steps<L>)
+    fn put_beside<L: Ledger>(&mut self, key: Key, pid: Pid, comparisons: &mut Steps<L>)
         requires spare { 0 < self.old.spare }
         requires free { map.get self.old.members key ≡ None }
         ensures members { self.new.members ≡ map.insert self.old.members key pid }
         ensures spare { self.new.spare + 1 ≡ self.old.spare }
-        ensures counted { steps.new + 1 ≤ steps.old + most_comparisons (map.len self.old.members) }
+        ensures counted { comparisons.new + 1
+            ≤ comparisons.old + most_comparisons (map.len self.old.members) }
     {
         let Some((last, other)) = &mut self.recent else {
             self.recent = Some((key, pid));
             return;
         };
-        self.tree.insert(*last, *other, steps);
+        self.tree.insert(*last, *other, comparisons);
         last.set(&key);
         *other = pid;
     }
 
     /// Takes out the pid at a key. `false` comes exactly if none is there, and then nothing changes.
     #[inline(always)]
-    pub fn remove<L: Ledger>(&mut self, key: &Key, steps: &mut Steps<L>) -> bool
+    pub fn remove<L: Ledger>(&mut self, key: &Key, comparisons: &mut Steps<L>) -> bool
         ensures found { result ≡ map.contains_key self.old.members key.now }
         ensures members { self.new.members ≡ map.remove self.old.members key.now }
         ensures spare { self.new.spare ≡ self.old.spare + (if result then 1 else 0) }
-        ensures counted { steps.new ≤ steps.old + most_comparisons (map.len self.old.members) }
+        ensures counted { comparisons.new
+            ≤ comparisons.old + most_comparisons (map.len self.old.members) }
     {
-        if is_at(&self.recent, key, steps) {
+        if is_at(&self.recent, key, comparisons) {
             self.recent = None;
             return true;
         }
         // The key is copied, so that the caller's own stays in registers if it is not looked for in the tree.
-        self.tree.remove(&Key { ..*key }, steps)
+        self.tree.remove(&Key { ..*key }, comparisons)
     }
 
     /// The pid at a key, which must be there, gets another rank. No pid may be at that with the rest of its key. If it
     /// stands beside the tree, it stays there.
     #[inline(always)]
-    pub fn set_rank<L: Ledger>(&mut self, key: &Key, rank: u128, pid: Pid, steps: &mut Steps<L>)
+    pub fn set_rank<L: Ledger>(
+        &mut self,
+        key: &Key,
+        rank: u128,
+        pid: Pid,
+        comparisons: &mut Steps<L>,
+    )
         requires there { IsTrue (map.contains_key self.old.members key.now) }
         requires free { map.get (map.remove self.old.members key.now)
             (record key.now { rank = rank }) ≡ None }
         ensures members { self.new.members ≡ map.insert
             (map.remove self.old.members key.now) (record key.now { rank = rank }) pid }
         ensures spare { self.new.spare ≡ self.old.spare }
-        ensures counted { steps.new ≤ steps.old + most_comparisons (map.len self.old.members)
+        ensures counted { comparisons.new
+            ≤ comparisons.old + most_comparisons (map.len self.old.members)
             + most_comparisons (map.len (map.remove self.old.members key.now)) }
     {
-        if is_at(&self.recent, key, steps) {
+        if is_at(&self.recent, key, comparisons) {
             let Some((last, other)) = &mut self.recent else {
                 unreachable!()
             };
@@ -156,8 +166,8 @@ impl<A> RecentTree<A> {
             *other = pid;
             return;
         }
-        self.tree.remove(&Key { ..*key }, steps);
-        self.put_beside(Key { rank, ..*key }, pid, steps);
+        self.tree.remove(&Key { ..*key }, comparisons);
+        self.put_beside(Key { rank, ..*key }, pid, comparisons);
     }
 
     /// Takes out all pids. It compares no key.
@@ -182,36 +192,37 @@ impl<A> RecentTree<A> {
     }
 
     /// Each key gets the rank and the stamp that its pid has now, with which the keys still rise.
-    pub fn renew<R: Renewal, L: Ledger>(&mut self, renewal: &R, steps: &mut Steps<L>)
+    pub fn renew<R: Renewal, L: Ledger>(&mut self, renewal: &R, comparisons: &mut Steps<L>)
         requires rising { IsTrue (map.is_sorted key_cmp
             (list.map (rekeyed (R.at renewal.now)) (map.entries self.old.members))) }
         ensures entries { map.entries self.new.members
             ≡ list.map (rekeyed (R.at renewal.now)) (map.entries self.old.members) }
         ensures spare { self.new.spare ≡ self.old.spare }
-        ensures counted { steps.new ≤ steps.old + most_comparisons (map.len self.old.members) }
+        ensures counted { comparisons.new
+            ≤ comparisons.old + most_comparisons (map.len self.old.members) }
     {
         if let Some((key, pid)) = self.recent.take() {
-            self.tree.insert(key, pid, steps);
+            self.tree.insert(key, pid, comparisons);
         }
         self.tree.renew(renewal);
     }
 
     /// The least key, and the pid there. `None` exactly if there is no key.
     #[inline(always)]
-    pub fn first<L: Ledger>(&self, steps: &mut Steps<L>) -> Option<(Key, Pid)>
+    pub fn first<L: Ledger>(&self, comparisons: &mut Steps<L>) -> Option<(Key, Pid)>
         ensures first { result ≡ first_of self.now.members }
-        ensures counted { steps.new ≤ steps.old + 1 }
+        ensures counted { comparisons.new ≤ comparisons.old + 1 }
     {
-        lesser(self.recent, self.tree.first(), steps)
+        lesser(self.recent, self.tree.first(), comparisons)
     }
 
     /// The rank of the least key, if all keys are of one group and one class: the lesser one of two ranks, whatever the
     /// stamps are. `None` exactly if there is no key.
     #[inline(always)]
-    pub fn least_rank<L: Ledger>(&self, steps: &mut Steps<L>) -> Option<u128>
+    pub fn least_rank<L: Ledger>(&self, comparisons: &mut Steps<L>) -> Option<u128>
         requires alike { IsOfClass self.now.members }
         ensures least { result ≡ option_map (λ entry. entry.0.rank) (first_of self.now.members) }
-        ensures counted { steps.new ≤ steps.old + 1 }
+        ensures counted { comparisons.new ≤ comparisons.old + 1 }
     {
         let Some((key, _)) = &self.recent else {
             return self.tree.least_rank();
@@ -219,37 +230,52 @@ impl<A> RecentTree<A> {
         let Some(rank) = self.tree.least_rank() else {
             return Some(key.rank);
         };
-        steps.tick();
+        comparisons.tick();
         Some(key.rank.min(rank))
     }
 
     /// The least key that is not below this one, and the pid there. `None` exactly if each key is
     /// below it.
-    pub fn first_from<L: Ledger>(&self, key: &Key, steps: &mut Steps<L>) -> Option<(Key, Pid)>
+    pub fn first_from<L: Ledger>(&self, key: &Key, comparisons: &mut Steps<L>) -> Option<(Key, Pid)>
         ensures first { result ≡ first_from self.now.members key.now }
-        ensures counted { steps.new ≤ steps.old + most_comparisons (map.len self.now.members) }
+        ensures counted { comparisons.new
+            ≤ comparisons.old + most_comparisons (map.len self.now.members) }
     {
-        let found = self.tree.first_from(key, steps);
-        lesser(reaching(self.recent, key, true, steps), found, steps)
+        let found = self.tree.first_from(key, comparisons);
+        lesser(
+            reaching(self.recent, key, true, comparisons),
+            found,
+            comparisons,
+        )
     }
 
     /// The least key that is of this group or of a greater one, and the pid there. `None` exactly if each key is of a
     /// lesser group.
-    pub fn first_in<L: Ledger>(&self, group: u64, steps: &mut Steps<L>) -> Option<(Key, Pid)>
+    pub fn first_in<L: Ledger>(&self, group: u64, comparisons: &mut Steps<L>) -> Option<(Key, Pid)>
         ensures first { result ≡ first_from self.now.members (start_of group) }
-        ensures counted { steps.new ≤ steps.old + most_comparisons (map.len self.now.members) }
+        ensures counted { comparisons.new
+            ≤ comparisons.old + most_comparisons (map.len self.now.members) }
     {
-        let found = self.tree.first_in(group, steps);
-        copied(lesser_lent(in_group(&self.recent, group, steps), found, steps))
+        let found = self.tree.first_in(group, comparisons);
+        copied(lesser_lent(
+            in_group(&self.recent, group, comparisons),
+            found,
+            comparisons,
+        ))
     }
 
     /// The least key that is above this one, and the pid there. `None` exactly if no key is above it.
-    pub fn next<L: Ledger>(&self, key: &Key, steps: &mut Steps<L>) -> Option<(Key, Pid)>
+    pub fn next<L: Ledger>(&self, key: &Key, comparisons: &mut Steps<L>) -> Option<(Key, Pid)>
         ensures next { result ≡ next_of self.now.members key.now }
-        ensures counted { steps.new ≤ steps.old + most_comparisons (map.len self.now.members) }
+        ensures counted { comparisons.new
+            ≤ comparisons.old + most_comparisons (map.len self.now.members) }
     {
-        let found = self.tree.next(key, steps);
-        lesser(reaching(self.recent, key, false, steps), found, steps)
+        let found = self.tree.next(key, comparisons);
+        lesser(
+            reaching(self.recent, key, false, comparisons),
+            found,
+            comparisons,
+        )
     }
 
     /// How many keys there are.
@@ -261,27 +287,27 @@ impl<A> RecentTree<A> {
 }
 
 /// Whether the entry, if there is one, is at this key.
-fn is_at<L: Ledger>(entry: &Option<(Key, Pid)>, key: &Key, steps: &mut Steps<L>) -> bool
+fn is_at<L: Ledger>(entry: &Option<(Key, Pid)>, key: &Key, comparisons: &mut Steps<L>) -> bool
     ensures at { result ≡ is_at entry.now key.now }
-    ensures counted { steps.new ≤ steps.old + 1 }
+    ensures counted { comparisons.new ≤ comparisons.old + 1 }
 {
     let Some((other, _)) = entry else {
         return false;
     };
-    steps.tick();
+    comparisons.tick();
     key.cmp(other).is_eq()
 }
 
 /// Whether there is an entry, and the key is not below its.
 #[inline(always)]
-fn is_past<L: Ledger>(entry: &Option<(Key, Pid)>, key: &Key, steps: &mut Steps<L>) -> bool
+fn is_past<L: Ledger>(entry: &Option<(Key, Pid)>, key: &Key, comparisons: &mut Steps<L>) -> bool
     ensures past { result ≡ is_past entry.now key.now }
-    ensures counted { steps.new ≤ steps.old + 1 }
+    ensures counted { comparisons.new ≤ comparisons.old + 1 }
 {
     let Some((other, _)) = entry else {
         return false;
     };
-    steps.tick();
+    comparisons.tick();
     !key.is_below(other)
 }
 
@@ -290,15 +316,15 @@ fn reaching<L: Ledger>(
     entry: Option<(Key, Pid)>,
     key: &Key,
     at: bool,
-    steps: &mut Steps<L>,
+    comparisons: &mut Steps<L>,
 ) -> Option<(Key, Pid)>
     ensures reaching { result ≡ reaching at key.now entry }
-    ensures counted { steps.new ≤ steps.old + 1 }
+    ensures counted { comparisons.new ≤ comparisons.old + 1 }
 {
     let Some((other, _)) = &entry else {
         return None;
     };
-    steps.tick();
+    comparisons.tick();
     if reaches(other.cmp(key), at) {
         entry
     } else {
@@ -311,15 +337,15 @@ fn reaching<L: Ledger>(
 fn in_group<'a, L: Ledger>(
     entry: &'a Option<(Key, Pid)>,
     group: u64,
-    steps: &mut Steps<L>,
+    comparisons: &mut Steps<L>,
 ) -> Option<(&'a Key, Pid)>
     ensures reaching { lent result ≡ reaching true (start_of group) entry.now }
-    ensures counted { steps.new ≤ steps.old + 1 }
+    ensures counted { comparisons.new ≤ comparisons.old + 1 }
 {
     let Some((key, pid)) = entry else {
         return None;
     };
-    steps.tick();
+    comparisons.tick();
     if key.is_below(&Key::start_of(group)) {
         return None;
     }

@@ -135,17 +135,17 @@ impl Node {
     /// The node of the least key that is of this group or of a greater one, among its own key, which must be so, and
     /// the lesser ones.
     #[inline(always)]
-    fn first_in<L: Ledger>(&self, group: u64, steps: &mut Steps<L>) -> &Node
+    fn first_in<L: Ledger>(&self, group: u64, comparisons: &mut Steps<L>) -> &Node
         requires own { group ≤ self.now.key.group }
         ensures found { Some (entry_in result.now) ≡ option_or
             (list.find (λ entry. reaches true (key_cmp entry.0 (start_of group)))
             self.now.left.entries) (Some (entry_in self.now)) }
-        ensures counted { steps.new ≤ steps.old + self.now.left.height }
+        ensures counted { comparisons.new ≤ comparisons.old + self.now.left.height }
     {
         let mut found = self;
         let mut tree = &self.left;
         while let Some(node) = &tree.root {
-            steps.tick();
+            comparisons.tick();
             if node.key.group < group {
                 tree = &node.right;
             } else {
@@ -213,16 +213,16 @@ impl Tree {
     /// The node of the first entry whose key is above this one, or also at it if `at` is true. It is out of line, since
     /// a loop within a caller keeps the compiler from seeing all that the caller writes.
     #[inline(never)]
-    pub fn seek<L: Ledger>(&self, key: &Key, at: bool, steps: &mut Steps<L>) -> Option<&Node>
+    pub fn seek<L: Ledger>(&self, key: &Key, at: bool, comparisons: &mut Steps<L>) -> Option<&Node>
         ensures found { entry_at result
             ≡ list.find (λ entry. reaches at (key_cmp entry.0 key.now)) self.now.entries }
         ensures shallow { self.now.height ≤ 2 * digits (length self.now.entries) }
-        ensures counted { steps.new ≤ steps.old + self.now.height }
+        ensures counted { comparisons.new ≤ comparisons.old + self.now.height }
     {
         let mut tree = self;
         let mut found = None;
         while let Some(node) = &tree.root {
-            steps.tick();
+            comparisons.tick();
             if reaches(node.key.cmp(key), at) {
                 found = Some(&**node);
                 tree = &node.left;
@@ -236,17 +236,17 @@ impl Tree {
     /// The same for the least key of a group, or at it. It reads the groups alone. Down to the first node of the group
     /// or of a greater one it has found none, and from there on it has one, so that neither walk keeps whether it has.
     #[inline(never)]
-    pub fn first_in<L: Ledger>(&self, group: u64, steps: &mut Steps<L>) -> Option<&Node>
+    pub fn first_in<L: Ledger>(&self, group: u64, comparisons: &mut Steps<L>) -> Option<&Node>
         ensures found { entry_at result ≡ list.find
             (λ entry. reaches true (key_cmp entry.0 (start_of group))) self.now.entries }
         ensures shallow { self.now.height ≤ 2 * digits (length self.now.entries) }
-        ensures counted { steps.new ≤ steps.old + self.now.height }
+        ensures counted { comparisons.new ≤ comparisons.old + self.now.height }
     {
         let mut tree = self;
         while let Some(node) = &tree.root {
-            steps.tick();
+            comparisons.tick();
             if node.key.group >= group {
-                return Some(node.first_in(group, steps));
+                return Some(node.first_in(group, comparisons));
             }
             tree = &node.right;
         }
@@ -257,25 +257,29 @@ impl Tree {
     /// It is inlined, so that a walk calls nothing for an empty side.
     #[cycle(insert)]
     #[inline(always)]
-    pub fn insert<L: Ledger>(&mut self, node: Box<Node>, steps: &mut Steps<L>) -> bool
+    pub fn insert<L: Ledger>(&mut self, node: Box<Node>, comparisons: &mut Steps<L>) -> bool
         requires free { find key_cmp node.value.key self.old.entries ≡ None }
         ensures entries { self.new.entries
             ≡ put key_cmp node.value.key node.value.pid self.old.entries }
         ensures height { self.new.height ≡ self.old.height + (if result then 1 else 0) }
         ensures many_before { HasMany self.old }
         ensures many { HasMany self.new }
-        ensures counted { steps.new ≤ steps.old + self.old.height }
+        ensures counted { comparisons.new ≤ comparisons.old + self.old.height }
     {
         let Some(root) = &mut self.root else {
             return plant(&mut self.root, node);
         };
-        Tree::insert_below(root, node, steps)
+        Tree::insert_below(root, node, comparisons)
     }
 
     /// The same for a tree with this root.
     #[cycle(insert)]
     #[inline(never)]
-    fn insert_below<L: Ledger>(root: &mut Box<Node>, node: Box<Node>, steps: &mut Steps<L>) -> bool
+    fn insert_below<L: Ledger>(
+        root: &mut Box<Node>,
+        node: Box<Node>,
+        comparisons: &mut Steps<L>,
+    ) -> bool
         requires even { IsEven root.old.value }
         requires free { find key_cmp node.value.key (under root.old.value).entries ≡ None }
         ensures even { IsEven root.new.value }
@@ -283,7 +287,7 @@ impl Tree {
             ≡ put key_cmp node.value.key node.value.pid (under root.old.value).entries }
         ensures height { (under root.new.value).height
             ≡ (under root.old.value).height + (if result then 1 else 0) }
-        ensures counted { steps.new ≤ steps.old + (under root.old.value).height }
+        ensures counted { comparisons.new ≤ comparisons.old + (under root.old.value).height }
     {
         let Node {
             left,
@@ -291,14 +295,14 @@ impl Tree {
             right,
             ..
         } = &mut **root;
-        steps.tick();
+        comparisons.tick();
         if node.key.is_below(key) {
-            if !left.insert(node, steps) {
+            if !left.insert(node, comparisons) {
                 return false;
             }
             return lean_left(root);
         }
-        if !right.insert(node, steps) {
+        if !right.insert(node, comparisons) {
             return false;
         }
         lean_right(root)
@@ -375,7 +379,7 @@ impl Tree {
         &mut self,
         key: &Key,
         taken: &mut Option<Box<Node>>,
-        steps: &mut Steps<L>,
+        comparisons: &mut Steps<L>,
     ) -> bool
         requires none { taken.old ≡ None }
         ensures entries { self.new.entries ≡ without key.now self.old.entries }
@@ -384,7 +388,7 @@ impl Tree {
         ensures height { self.old.height ≡ self.new.height + (if result then 1 else 0) }
         ensures many_before { HasMany self.old }
         ensures many { HasMany self.new }
-        ensures counted { steps.new ≤ steps.old + self.old.height }
+        ensures counted { comparisons.new ≤ comparisons.old + self.old.height }
     {
         let Some(root) = &mut self.root else {
             return false;
@@ -395,17 +399,17 @@ impl Tree {
             right,
             ..
         } = &mut **root;
-        steps.tick();
+        comparisons.tick();
         match key.compare(own) {
             Ordering::Less => {
-                if !left.remove(key, taken, steps) {
+                if !left.remove(key, taken, comparisons) {
                     return false;
                 }
                 !lean_right(root)
             }
             Ordering::Equal => uproot(&mut self.root, taken),
             Ordering::Greater => {
-                if !right.remove(key, taken, steps) {
+                if !right.remove(key, taken, comparisons) {
                     return false;
                 }
                 !lean_left(root)

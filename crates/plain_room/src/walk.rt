@@ -63,7 +63,7 @@ impl SiblingQueue for Walk {
         _table: &TaskTable,
         _cpu: Cpu,
         _task: &Task,
-        _steps: &mut Steps<L>,
+        _comparisons: &mut Steps<L>,
     ) {}
 
     fn take<L: Ledger>(
@@ -71,7 +71,7 @@ impl SiblingQueue for Walk {
         _table: &TaskTable,
         _cpu: Cpu,
         _task: &Task,
-        _steps: &mut Steps<L>,
+        _comparisons: &mut Steps<L>,
     ) {}
 
     fn set_cookie<L: Ledger>(
@@ -80,7 +80,7 @@ impl SiblingQueue for Walk {
         _cpu: Cpu,
         _task: &Task,
         _cookie: Cookie,
-        _steps: &mut Steps<L>,
+        _comparisons: &mut Steps<L>,
     ) {}
 
     fn set_vtime<L: Ledger>(
@@ -89,7 +89,7 @@ impl SiblingQueue for Walk {
         _cpu: Cpu,
         _task: &Task,
         _vtime: u128,
-        _steps: &mut Steps<L>,
+        _comparisons: &mut Steps<L>,
     ) {}
 
     fn clear(&mut self, _table: &TaskTable, _cpu: Cpu) {}
@@ -105,14 +105,14 @@ impl SiblingQueue for Walk {
         _table: &TaskTable,
         _cpu: Cpu,
         _movers: &[Pid],
-        _steps: &mut Steps<L>,
+        _comparisons: &mut Steps<L>,
     ) {}
 
     fn first<L: Ledger>(
         &self,
         table: &TaskTable,
         cpu: Cpu,
-        _steps: &mut Steps<L>,
+        _comparisons: &mut Steps<L>,
     ) -> Option<Queued> {
         let first = table
             .iter()
@@ -127,7 +127,7 @@ impl SiblingQueue for Walk {
         cookie: Cookie,
         table: &TaskTable,
         cpu: Cpu,
-        _steps: &mut Steps<L>,
+        _comparisons: &mut Steps<L>,
     ) -> Option<Queued> {
         let first = table
             .iter()
@@ -142,7 +142,7 @@ impl SiblingQueue for Walk {
         task: &Task,
         table: &TaskTable,
         cpu: Cpu,
-        _steps: &mut Steps<L>,
+        _comparisons: &mut Steps<L>,
     ) -> Option<Task> {
         table
             .iter()
@@ -157,7 +157,7 @@ impl SiblingQueue for Walk {
         &self,
         table: &TaskTable,
         cpu: Cpu,
-        _steps: &mut Steps<L>,
+        _comparisons: &mut Steps<L>,
     ) -> Option<u128> {
         table
             .iter()
@@ -172,7 +172,7 @@ impl SiblingQueue for Walk {
         task: &Task,
         table: &TaskTable,
         cpu: Cpu,
-        _steps: &mut Steps<L>,
+        _comparisons: &mut Steps<L>,
     ) -> bool {
         table.iter().any(|other| is_on(other, cpu)
             && other.spec.pid != task.spec.pid

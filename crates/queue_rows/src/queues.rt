@@ -47,12 +47,12 @@ fn ranks(rt: HostRuntime) {
 }
 
 /// Puts two tasks in a queue without tasks, the one of the greater rank first.
-fn put_two<L: Ledger, R: Abort, Q: ClassQueue>(rt: &R, queue: &mut Q, steps: &mut Steps<L>)
+fn put_two<L: Ledger, R: Abort, Q: ClassQueue>(rt: &R, queue: &mut Q, comparisons: &mut Steps<L>)
     requires { Q.members queue.old ≡ empty }
 {
     queue.reserve(2).expect(rt, "room");
-    queue.put(20, 1, 7, steps);
-    queue.put(10, 2, 8, steps);
+    queue.put(20, 1, 7, comparisons);
+    queue.put(10, 2, 8, comparisons);
 }
 
 /// Expects that the task with this pid is the first, and takes it out from the key.
@@ -61,28 +61,34 @@ fn expect_top<L: Ledger, R: Abort, Q: ClassQueue>(
     queue: &mut Q,
     (rank, stamp): (u128, u64),
     pid: Pid,
-    steps: &mut Steps<L>,
+    comparisons: &mut Steps<L>,
 ) {
-    let is_top = queue.top(steps) == Some(pid);
-    assert!(rt; is_top && queue.take(rank, stamp, steps) && !queue.take(rank, stamp, steps));
+    let is_top = queue.top(comparisons) == Some(pid);
+    assert!(rt;
+        is_top && queue.take(rank, stamp, comparisons) && !queue.take(rank, stamp, comparisons)
+    );
 }
 
 /// Expects the two tasks of a queue, the one of the smaller rank before the earlier one, and takes both
 /// out.
-fn expect_both<L: Ledger, R: Abort, Q: ClassQueue>(rt: &R, queue: &mut Q, steps: &mut Steps<L>) {
+fn expect_both<L: Ledger, R: Abort, Q: ClassQueue>(
+    rt: &R,
+    queue: &mut Q,
+    comparisons: &mut Steps<L>,
+) {
     assert!(rt; queue.len() == 2);
-    expect_top(rt, queue, (10, 2), 8, steps);
-    expect_top(rt, queue, (20, 1), 7, steps);
-    assert!(rt; queue.top(steps).is_none() && queue.len() == 0);
+    expect_top(rt, queue, (10, 2), 8, comparisons);
+    expect_top(rt, queue, (20, 1), 7, comparisons);
+    assert!(rt; queue.top(comparisons).is_none() && queue.len() == 0);
 }
 
 /// Expects that a queue without tasks takes two, has the one of the smaller rank before the earlier one,
 /// and gives both back.
-fn expect_two<L: Ledger, R: Abort, Q: ClassQueue>(rt: &R, mut queue: Q, steps: &mut Steps<L>)
+fn expect_two<L: Ledger, R: Abort, Q: ClassQueue>(rt: &R, mut queue: Q, comparisons: &mut Steps<L>)
     requires { Q.members queue ≡ empty }
 {
-    put_two(rt, &mut queue, steps);
-    expect_both(rt, &mut queue, steps);
+    put_two(rt, &mut queue, comparisons);
+    expect_both(rt, &mut queue, comparisons);
 }
 
 /// A task with this pid, of this class, at rank 0, whose stamp is its pid, with this cookie.
@@ -102,15 +108,18 @@ fn queued(pid: Pid, class: u8, cookie: Cookie) -> Queued
 }
 
 /// A run queue with a task of each class, the lowest class first.
-fn queue_of_each_class<L: Ledger, R: AllocGlobal + Abort>(rt: &R, steps: &mut Steps<L>) -> RunQueue
+fn queue_of_each_class<L: Ledger, R: AllocGlobal + Abort>(
+    rt: &R,
+    comparisons: &mut Steps<L>,
+) -> RunQueue
     ensures { result.cookies ≡ empty }
 {
     let mut queue = RunQueue::empty(rt.alloc());
     queue.reserve(4).expect(rt, "room");
-    queue.enqueue(queued(1, Queued::FAIR, 0), steps);
-    queue.enqueue(queued(2, Queued::REAL_TIME, 0), steps);
-    queue.enqueue(queued(3, Queued::DEADLINE, 0), steps);
-    queue.enqueue(queued(4, Queued::STOP, 0), steps);
+    queue.enqueue(queued(1, Queued::FAIR, 0), comparisons);
+    queue.enqueue(queued(2, Queued::REAL_TIME, 0), comparisons);
+    queue.enqueue(queued(3, Queued::DEADLINE, 0), comparisons);
+    queue.enqueue(queued(4, Queued::STOP, 0), comparisons);
     queue
 }
 
@@ -120,34 +129,34 @@ fn expect_first<L: Ledger, R: Abort>(
     queue: &mut RunQueue,
     pid: Pid,
     class: u8,
-    steps: &mut Steps<L>,
+    comparisons: &mut Steps<L>,
 )
     requires class { class ≤ fair_class }
     requires cookies { queue.old.cookies ≡ empty }
     ensures { queue.new.cookies ≡ empty }
 {
     let task = queued(pid, class, 0);
-    assert!(rt; queue.first(steps) == Some(pid));
-    assert!(rt; queue.dequeue(&task, steps));
-    assert!(rt; !queue.dequeue(&task, steps));
+    assert!(rt; queue.first(comparisons) == Some(pid));
+    assert!(rt; queue.dequeue(&task, comparisons));
+    assert!(rt; !queue.dequeue(&task, comparisons));
 }
 
 /// Expects the tasks of such a run queue, the highest class first, and takes them out.
-fn expect_classes<L: Ledger, R: Abort>(rt: &R, queue: &mut RunQueue, steps: &mut Steps<L>)
+fn expect_classes<L: Ledger, R: Abort>(rt: &R, queue: &mut RunQueue, comparisons: &mut Steps<L>)
     requires { queue.old.cookies ≡ empty }
 {
     assert!(rt; queue.count() == 4);
-    expect_first(rt, queue, 4, Queued::STOP, steps);
-    expect_first(rt, queue, 3, Queued::DEADLINE, steps);
-    expect_first(rt, queue, 2, Queued::REAL_TIME, steps);
-    expect_first(rt, queue, 1, Queued::FAIR, steps);
-    assert!(rt; queue.first(steps).is_none() && queue.count() == 0);
+    expect_first(rt, queue, 4, Queued::STOP, comparisons);
+    expect_first(rt, queue, 3, Queued::DEADLINE, comparisons);
+    expect_first(rt, queue, 2, Queued::REAL_TIME, comparisons);
+    expect_first(rt, queue, 1, Queued::FAIR, comparisons);
+    assert!(rt; queue.first(comparisons).is_none() && queue.count() == 0);
 }
 
 /// Expects that a run queue gives a task of each class back, the highest class first.
-fn expect_each_class<L: Ledger, R: AllocGlobal + Abort>(rt: &R, steps: &mut Steps<L>) {
-    let mut queue = queue_of_each_class(rt, steps);
-    expect_classes(rt, &mut queue, steps);
+fn expect_each_class<L: Ledger, R: AllocGlobal + Abort>(rt: &R, comparisons: &mut Steps<L>) {
+    let mut queue = queue_of_each_class(rt, comparisons);
+    expect_classes(rt, &mut queue, comparisons);
     drop(queue);
 }
 
@@ -157,17 +166,17 @@ fn expect_told<L: Ledger, R: Abort>(
     queue: &RunQueue,
     low: &Queued,
     high: &Queued,
-    steps: &mut Steps<L>,
+    comparisons: &mut Steps<L>,
 )
     requires low { IsRanked low.now }
     requires high { IsRanked high.now }
 {
     let found = [
-        queue.first_of(7, steps),
-        queue.next_of(high, steps),
-        queue.next_of(low, steps),
-        queue.first_of(6, steps),
-        queue.first_of(8, steps),
+        queue.first_of(7, comparisons),
+        queue.next_of(high, comparisons),
+        queue.next_of(low, comparisons),
+        queue.first_of(6, comparisons),
+        queue.first_of(8, comparisons),
     ];
     assert!(rt;
         matches!(
@@ -184,16 +193,16 @@ fn expect_told<L: Ledger, R: Abort>(
 }
 
 /// Expects of a run queue that it finds the tasks of a cookie, the higher first, until they are taken out.
-fn expect_cookies<L: Ledger, R: AllocGlobal + Abort>(rt: &R, steps: &mut Steps<L>) {
+fn expect_cookies<L: Ledger, R: AllocGlobal + Abort>(rt: &R, comparisons: &mut Steps<L>) {
     let mut queue = RunQueue::empty(rt.alloc());
     queue.reserve(2).expect(rt, "room");
     let low = queued(1, Queued::FAIR, 7);
     let high = queued(2, Queued::REAL_TIME, 7);
-    queue.enqueue(low, steps);
-    queue.enqueue(high, steps);
-    expect_told(rt, &queue, &low, &high, steps);
-    assert!(rt; queue.dequeue(&high, steps));
-    assert!(rt; matches!(queue.first_of(7, steps), Some(Queued { pid: 1, .. })));
+    queue.enqueue(low, comparisons);
+    queue.enqueue(high, comparisons);
+    expect_told(rt, &queue, &low, &high, comparisons);
+    assert!(rt; queue.dequeue(&high, comparisons));
+    assert!(rt; matches!(queue.first_of(7, comparisons), Some(Queued { pid: 1, .. })));
     drop(queue);
 }
 
@@ -203,29 +212,29 @@ fn expect_found<L: Ledger, R: Abort>(
     tree: &OrderTree,
     low: &Key,
     high: &Key,
-    steps: &mut Steps<L>,
+    comparisons: &mut Steps<L>,
 ) {
     let found = [
         tree.first(),
-        tree.first_from(&key(4), steps),
-        tree.first_from(high, steps),
-        tree.next(low, steps),
-        tree.next(high, steps),
+        tree.first_from(&key(4), comparisons),
+        tree.first_from(high, comparisons),
+        tree.next(low, comparisons),
+        tree.next(high, comparisons),
     ];
     let above = Some((*high, 50));
     assert!(rt; found == [Some((*low, 30)), above, above, above, None] && tree.len() == 2);
 }
 
 /// Expects of a tree that it shows its keys in order, and gives them back.
-fn expect_keys<L: Ledger, R: AllocGlobal + Abort>(rt: &R, steps: &mut Steps<L>) {
+fn expect_keys<L: Ledger, R: AllocGlobal + Abort>(rt: &R, comparisons: &mut Steps<L>) {
     let mut tree = OrderTree::empty(rt.alloc());
     tree.reserve(2).expect(rt, "room");
     let low = key(3);
     let high = key(5);
-    tree.insert(high, 50, steps);
-    tree.insert(low, 30, steps);
-    expect_found(rt, &tree, &low, &high, steps);
-    assert!(rt; tree.remove(&low, steps) && !tree.remove(&low, steps));
+    tree.insert(high, 50, comparisons);
+    tree.insert(low, 30, comparisons);
+    expect_found(rt, &tree, &low, &high, comparisons);
+    assert!(rt; tree.remove(&low, comparisons) && !tree.remove(&low, comparisons));
     assert!(rt; tree.first() == Some((high, 50)) && tree.len() == 1);
 }
 
@@ -247,14 +256,14 @@ fn expect_queues<L: Ledger, R: AllocGlobal + Abort>(rt: &R, blank: Blank)
     requires parts { blank.parts ≡ L.parts }
     requires some { 0 < blank.parts }
 {
-    let mut steps = Steps::<L>::start(blank);
-    expect_two(rt, RankTree::empty(rt.alloc()), &mut steps);
-    expect_two(rt, RtQueue::empty(rt.alloc()), &mut steps);
-    expect_two(rt, DeadlineQueue::empty(rt.alloc()), &mut steps);
-    expect_two(rt, FairQueue::empty(rt.alloc()), &mut steps);
-    expect_each_class(rt, &mut steps);
-    expect_cookies(rt, &mut steps);
-    expect_keys(rt, &mut steps);
+    let mut comparisons = Steps::<L>::start(blank);
+    expect_two(rt, RankTree::empty(rt.alloc()), &mut comparisons);
+    expect_two(rt, RtQueue::empty(rt.alloc()), &mut comparisons);
+    expect_two(rt, DeadlineQueue::empty(rt.alloc()), &mut comparisons);
+    expect_two(rt, FairQueue::empty(rt.alloc()), &mut comparisons);
+    expect_each_class(rt, &mut comparisons);
+    expect_cookies(rt, &mut comparisons);
+    expect_keys(rt, &mut comparisons);
 }
 
 #[test]

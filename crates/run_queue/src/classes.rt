@@ -99,36 +99,42 @@ impl Classes {
 
 impl<A> Classes<A> {
     /// Puts a task at a seat where none is.
-    pub fn enqueue<L: Ledger>(&mut self, task: Queued, steps: &mut Steps<L>)
+    pub fn enqueue<L: Ledger>(&mut self, task: Queued, comparisons: &mut Steps<L>)
         requires spare { 0 < self.old.spare }
         requires class { task.class ≤ fair_class }
         requires free { map.get self.old.tasks (seat_of task) ≡ None }
         ensures tasks { self.new.tasks ≡ map.insert self.old.tasks (seat_of task) task.pid }
         ensures spare { self.new.spare + 1 ≡ self.old.spare }
-        ensures counted { steps.new ≤ steps.old + most_comparisons (map.len self.old.tasks) }
+        ensures counted { comparisons.new
+            ≤ comparisons.old + most_comparisons (map.len self.old.tasks) }
     {
         match task.class {
-            Queued::STOP => self.stop.put(task.rank, task.stamp, task.pid, steps),
-            Queued::DEADLINE => self.deadline.put(task.rank, task.stamp, task.pid, steps),
-            Queued::REAL_TIME => self.real_time.put(task.rank, task.stamp, task.pid, steps),
-            _ => self.fair.put(task.rank, task.stamp, task.pid, steps),
+            Queued::STOP => self.stop.put(task.rank, task.stamp, task.pid, comparisons),
+            Queued::DEADLINE => self
+                .deadline
+                .put(task.rank, task.stamp, task.pid, comparisons),
+            Queued::REAL_TIME => self
+                .real_time
+                .put(task.rank, task.stamp, task.pid, comparisons),
+            _ => self.fair.put(task.rank, task.stamp, task.pid, comparisons),
         }
     }
 
     /// Takes the task at the seat of this one out. `false` comes exactly if none is there, and then
     /// nothing changes.
-    pub fn dequeue<L: Ledger>(&mut self, task: &Queued, steps: &mut Steps<L>) -> bool
+    pub fn dequeue<L: Ledger>(&mut self, task: &Queued, comparisons: &mut Steps<L>) -> bool
         requires class { task.now.class ≤ fair_class }
         ensures found { result ≡ map.contains_key self.old.tasks (seat_of task.now) }
         ensures tasks { self.new.tasks ≡ map.remove self.old.tasks (seat_of task.now) }
         ensures spare { self.new.spare ≡ self.old.spare + (if result then 1 else 0) }
-        ensures counted { steps.new ≤ steps.old + most_comparisons (map.len self.old.tasks) }
+        ensures counted { comparisons.new
+            ≤ comparisons.old + most_comparisons (map.len self.old.tasks) }
     {
         match task.class {
-            Queued::STOP => self.stop.take(task.rank, task.stamp, steps),
-            Queued::DEADLINE => self.deadline.take(task.rank, task.stamp, steps),
-            Queued::REAL_TIME => self.real_time.take(task.rank, task.stamp, steps),
-            _ => self.fair.take(task.rank, task.stamp, steps),
+            Queued::STOP => self.stop.take(task.rank, task.stamp, comparisons),
+            Queued::DEADLINE => self.deadline.take(task.rank, task.stamp, comparisons),
+            Queued::REAL_TIME => self.real_time.take(task.rank, task.stamp, comparisons),
+            _ => self.fair.take(task.rank, task.stamp, comparisons),
         }
     }
 
@@ -140,7 +146,7 @@ impl<A> Classes<A> {
         later: u128,
         stamp: u64,
         pid: Pid,
-        steps: &mut Steps<L>,
+        comparisons: &mut Steps<L>,
     )
         requires there { IsTrue (map.contains_key self.old.tasks (fair_class, (rank, stamp))) }
         requires free { map.get (map.remove self.old.tasks (fair_class, (rank, stamp)))
@@ -149,10 +155,11 @@ impl<A> Classes<A> {
             ≡ map.insert (map.remove self.old.tasks (fair_class, (rank, stamp)))
             (fair_class, (later, stamp)) pid }
         ensures spare { self.new.spare ≡ self.old.spare }
-        ensures counted { steps.new ≤ steps.old + most_comparisons (map.len self.old.tasks)
+        ensures counted { comparisons.new
+            ≤ comparisons.old + most_comparisons (map.len self.old.tasks)
             + most_comparisons (map.len (map.remove self.old.tasks (fair_class, (rank, stamp)))) }
     {
-        self.fair.set_rank(rank, later, stamp, pid, steps);
+        self.fair.set_rank(rank, later, stamp, pid, comparisons);
     }
 
     /// Every task leaves.
@@ -179,23 +186,24 @@ impl<A> Classes<A> {
     }
 
     /// Each task gets the rank and the stamp that it has now, with which they stand in the same order.
-    pub fn renew<R: Renewal, L: Ledger>(&mut self, renewal: &R, steps: &mut Steps<L>)
+    pub fn renew<R: Renewal, L: Ledger>(&mut self, renewal: &R, comparisons: &mut Steps<L>)
         requires rising { IsTrue (map.is_sorted seat_cmp
             (list.map (reseated (R.at renewal.now)) (map.entries self.old.tasks))) }
         ensures entries { map.entries self.new.tasks
             ≡ list.map (reseated (R.at renewal.now)) (map.entries self.old.tasks) }
         ensures spare { self.new.spare ≡ self.old.spare }
-        ensures counted { steps.new ≤ steps.old + 4 * most_comparisons (map.len self.old.tasks) }
+        ensures counted { comparisons.new
+            ≤ comparisons.old + 4 * most_comparisons (map.len self.old.tasks) }
     {
-        self.stop.renew(renewal, steps);
-        self.deadline.renew(renewal, steps);
-        self.real_time.renew(renewal, steps);
-        self.fair.renew(renewal, steps);
+        self.stop.renew(renewal, comparisons);
+        self.deadline.renew(renewal, comparisons);
+        self.real_time.renew(renewal, comparisons);
+        self.fair.renew(renewal, comparisons);
     }
 
     /// The pid of the first task: the one of the highest class, in that of the least rank, and among
     /// those with the least stamp. `None` exactly if there is no task.
-    pub fn first<L: Ledger>(&self, steps: &mut Steps<L>) -> Option<Pid>
+    pub fn first<L: Ledger>(&self, comparisons: &mut Steps<L>) -> Option<Pid>
         ensures first { result ≡ top_of self.now.tasks }
 
         // If this is the queue of some tasks of a room, it is the first of them.
@@ -205,35 +213,37 @@ impl<A> Classes<A> {
 
         // Of the classes that are asked only the last can have a task. At most two comparisons show that another has
         // none.
-        ensures counted { steps.new ≤ steps.old + most_comparisons (map.len self.now.tasks) + 6 }
+        ensures counted { comparisons.new
+            ≤ comparisons.old + most_comparisons (map.len self.now.tasks) + 6 }
     {
-        if let Some(pid) = self.stop.top(steps) {
+        if let Some(pid) = self.stop.top(comparisons) {
             return Some(pid);
         }
-        if let Some(pid) = self.deadline.top(steps) {
+        if let Some(pid) = self.deadline.top(comparisons) {
             return Some(pid);
         }
-        if let Some(pid) = self.real_time.top(steps) {
+        if let Some(pid) = self.real_time.top(comparisons) {
             return Some(pid);
         }
-        self.first_fair(steps)
+        self.first_fair(comparisons)
     }
 
     /// The pid of the first fair task. `None` exactly if there is none.
-    pub fn first_fair<L: Ledger>(&self, steps: &mut Steps<L>) -> Option<Pid>
+    pub fn first_fair<L: Ledger>(&self, comparisons: &mut Steps<L>) -> Option<Pid>
         ensures first { result ≡ first_in fair_class self.now.tasks }
-        ensures counted { steps.new ≤ steps.old + most_comparisons (map.len self.now.tasks) }
+        ensures counted { comparisons.new
+            ≤ comparisons.old + most_comparisons (map.len self.now.tasks) }
     {
-        self.fair.top(steps)
+        self.fair.top(comparisons)
     }
 
     /// The rank of the first fair task. `None` exactly if there is none.
     #[inline(always)]
-    pub fn least_fair<L: Ledger>(&self, steps: &mut Steps<L>) -> Option<u128>
+    pub fn least_fair<L: Ledger>(&self, comparisons: &mut Steps<L>) -> Option<u128>
         ensures least { result ≡ least_rank_in fair_class self.now.tasks }
-        ensures counted { steps.new ≤ steps.old + 1 }
+        ensures counted { comparisons.new ≤ comparisons.old + 1 }
     {
-        self.fair.least_rank(steps)
+        self.fair.least_rank(comparisons)
     }
 
     /// How many tasks there are.

@@ -92,22 +92,23 @@ impl RunQueue {
 
 impl<A> RunQueue<A> {
     /// Puts a task at a seat where none is.
-    pub fn enqueue<L: Ledger>(&mut self, task: Queued, steps: &mut Steps<L>)
+    pub fn enqueue<L: Ledger>(&mut self, task: Queued, comparisons: &mut Steps<L>)
         requires spare { 0 < self.old.spare }
         requires ranked { IsRanked task }
         requires free { map.get self.old.tasks (seat_of task) ≡ None }
         ensures tasks { self.new.tasks ≡ map.insert self.old.tasks (seat_of task) task.pid }
         ensures cookies { self.new.cookies ≡ including task self.old.cookies }
         ensures spare { self.new.spare + 1 ≡ self.old.spare }
-        ensures counted { steps.new ≤ steps.old + 2 * most_comparisons (map.len self.old.tasks) }
+        ensures counted { comparisons.new
+            ≤ comparisons.old + 2 * most_comparisons (map.len self.old.tasks) }
     {
-        self.classes.enqueue(task, steps);
-        self.enter_cookies(task, steps);
+        self.classes.enqueue(task, comparisons);
+        self.enter_cookies(task, comparisons);
     }
 
     /// Takes the task at the seat of this one out, which has its pid and its cookie. `false` comes exactly if none is
     /// there, and then nothing changes.
-    pub fn dequeue<L: Ledger>(&mut self, task: &Queued, steps: &mut Steps<L>) -> bool
+    pub fn dequeue<L: Ledger>(&mut self, task: &Queued, comparisons: &mut Steps<L>) -> bool
         requires ranked { IsRanked task.now }
         requires same { IfSome (map.get self.old.cookies (spot_of task.now))
             (λ pid. pid ≡ task.now.pid) }
@@ -118,15 +119,16 @@ impl<A> RunQueue<A> {
         ensures tasks { self.new.tasks ≡ map.remove self.old.tasks (seat_of task.now) }
         ensures cookies { self.new.cookies ≡ without task.now self.old.cookies }
         ensures spare { self.new.spare ≡ self.old.spare + (if result then 1 else 0) }
-        ensures counted { steps.new ≤ steps.old + 2 * most_comparisons (map.len self.old.tasks) }
+        ensures counted { comparisons.new
+            ≤ comparisons.old + 2 * most_comparisons (map.len self.old.tasks) }
     {
-        self.leave_cookies(task, steps);
-        self.classes.dequeue(task, steps)
+        self.leave_cookies(task, comparisons);
+        self.classes.dequeue(task, comparisons)
     }
 
     /// The task leaves the cookie order (`sched_core_dequeue`), if it has a cookie.
     #[inline(always)]
-    fn leave_cookies<L: Ledger>(&mut self, task: &Queued, steps: &mut Steps<L>)
+    fn leave_cookies<L: Ledger>(&mut self, task: &Queued, comparisons: &mut Steps<L>)
         requires ranked { IsRanked task.now }
         requires same { IfSome (map.get self.old.cookies (spot_of task.now))
             (λ pid. pid ≡ task.now.pid) }
@@ -137,29 +139,32 @@ impl<A> RunQueue<A> {
         ensures cookies { self.new.cookies ≡ without task.now self.old.cookies }
         ensures free { (cookie : ℕ) → map.get self.new.cookies (cookie, seat_of task.now) ≡ None }
         ensures spare { self.new.spare ≡ self.old.spare }
-        ensures counted { steps.new ≤ steps.old + most_comparisons (map.len self.old.tasks) }
+        ensures counted { comparisons.new
+            ≤ comparisons.old + most_comparisons (map.len self.old.tasks) }
     {
         if task.cookie != 0 {
-            self.cookies.take(task, steps);
+            self.cookies.take(task, comparisons);
         }
     }
 
     /// The task, which is there, enters the cookie order (`sched_core_enqueue`), if it has a cookie.
     #[inline(always)]
-    fn enter_cookies<L: Ledger>(&mut self, task: Queued, steps: &mut Steps<L>)
+    fn enter_cookies<L: Ledger>(&mut self, task: Queued, comparisons: &mut Steps<L>)
         requires ranked { IsRanked task }
         requires there { IsTrue (map.contains_key self.old.tasks (seat_of task)) }
         requires free { (cookie : ℕ) → map.get self.old.cookies (cookie, seat_of task) ≡ None }
         ensures tasks { self.new.tasks ≡ self.old.tasks }
         ensures cookies { self.new.cookies ≡ including task self.old.cookies }
         ensures spare { self.new.spare ≡ self.old.spare }
-        ensures counted { steps.new ≤ steps.old + most_comparisons (map.len self.old.tasks) }
+        ensures counted { comparisons.new
+            ≤ comparisons.old + most_comparisons (map.len self.old.tasks) }
 
         // It is compared with tasks that have cookies alone.
-        ensures few { steps.new ≤ steps.old + most_comparisons (map.len self.old.cookies) }
+        ensures few { comparisons.new
+            ≤ comparisons.old + most_comparisons (map.len self.old.cookies) }
     {
         if task.cookie != 0 {
-            self.cookies.put(task, steps);
+            self.cookies.put(task, comparisons);
         }
     }
 
@@ -167,7 +172,12 @@ impl<A> RunQueue<A> {
     /// kernel/sched/core_sched.c): it leaves the cookie order at its old one and enters it at the new one, if these are
     /// not 0. The queue of its class is not touched.
     #[inline(always)]
-    pub fn set_cookie<L: Ledger>(&mut self, task: &Queued, cookie: Cookie, steps: &mut Steps<L>)
+    pub fn set_cookie<L: Ledger>(
+        &mut self,
+        task: &Queued,
+        cookie: Cookie,
+        comparisons: &mut Steps<L>,
+    )
         requires ranked { IsRanked task.now }
         requires there { IsTrue (map.contains_key self.old.tasks (seat_of task.now)) }
         requires same { IfSome (map.get self.old.cookies (spot_of task.now))
@@ -179,16 +189,22 @@ impl<A> RunQueue<A> {
         ensures cookies { self.new.cookies
             ≡ including (record task.now { cookie = cookie }) (without task.now self.old.cookies) }
         ensures spare { self.new.spare ≡ self.old.spare }
-        ensures counted { steps.new ≤ steps.old + 2 * most_comparisons (map.len self.old.tasks) }
+        ensures counted { comparisons.new
+            ≤ comparisons.old + 2 * most_comparisons (map.len self.old.tasks) }
     {
-        self.leave_cookies(task, steps);
-        self.enter_cookies(Queued { cookie, ..*task }, steps);
+        self.leave_cookies(task, comparisons);
+        self.enter_cookies(Queued { cookie, ..*task }, comparisons);
     }
 
     /// The fair task, which is there with its pid and its cookie, gets another rank, at which none may have its stamp:
     /// it stands by that in its class, and in the cookie order, if it has a cookie.
     #[inline(always)]
-    pub fn set_fair_rank<L: Ledger>(&mut self, task: &Queued, rank: u128, steps: &mut Steps<L>)
+    pub fn set_fair_rank<L: Ledger>(
+        &mut self,
+        task: &Queued,
+        rank: u128,
+        comparisons: &mut Steps<L>,
+    )
         requires fair { task.now.class ≡ fair_class }
         requires there { IsTrue (map.contains_key self.old.tasks (seat_of task.now)) }
         requires entered { task.now.cookie ≢ 0 →
@@ -204,13 +220,14 @@ impl<A> RunQueue<A> {
         ensures cookies { self.new.cookies
             ≡ including (record task.now { rank = rank }) (without task.now self.old.cookies) }
         ensures spare { self.new.spare ≡ self.old.spare }
-        ensures counted { steps.new ≤ steps.old + 2 * most_comparisons (map.len self.old.tasks)
+        ensures counted { comparisons.new
+            ≤ comparisons.old + 2 * most_comparisons (map.len self.old.tasks)
             + 2 * most_comparisons (map.len (map.remove self.old.tasks (seat_of task.now))) }
     {
         self.classes
-            .set_fair_rank(task.rank, rank, task.stamp, task.pid, steps);
+            .set_fair_rank(task.rank, rank, task.stamp, task.pid, comparisons);
         if task.cookie != 0 {
-            self.cookies.set_rank(task, rank, steps);
+            self.cookies.set_rank(task, rank, comparisons);
         }
     }
 
@@ -235,7 +252,7 @@ impl<A> RunQueue<A> {
 
     /// Each task gets the rank and the stamp that it has now, with which they stand in the same order, and those with
     /// cookies among them are still theirs.
-    pub fn renew<R: Renewal, L: Ledger>(&mut self, renewal: &R, steps: &mut Steps<L>)
+    pub fn renew<R: Renewal, L: Ledger>(&mut self, renewal: &R, comparisons: &mut Steps<L>)
         requires rising { IsTrue (map.is_sorted seat_cmp
             (list.map (reseated (R.at renewal.now)) (map.entries self.old.tasks))) }
         requires rising_with_cookies { IsTrue (map.is_sorted spot_cmp
@@ -251,15 +268,16 @@ impl<A> RunQueue<A> {
         ensures cookies { map.entries self.new.cookies
             ≡ list.map (respotted (R.at renewal.now)) (map.entries self.old.cookies) }
         ensures spare { self.new.spare ≡ self.old.spare }
-        ensures counted { steps.new ≤ steps.old + 5 * most_comparisons (map.len self.old.tasks) }
+        ensures counted { comparisons.new
+            ≤ comparisons.old + 5 * most_comparisons (map.len self.old.tasks) }
     {
-        self.classes.renew(renewal, steps);
-        self.cookies.renew(renewal, steps);
+        self.classes.renew(renewal, comparisons);
+        self.cookies.renew(renewal, comparisons);
     }
 
     /// The pid of the first task: the one of the highest class, in that of the least rank, and among
     /// those with the least stamp. `None` exactly if there is no task.
-    pub fn first<L: Ledger>(&self, steps: &mut Steps<L>) -> Option<Pid>
+    pub fn first<L: Ledger>(&self, comparisons: &mut Steps<L>) -> Option<Pid>
         ensures first { result ≡ top_of self.now.tasks }
 
         // If this is the queue of some tasks of a room, it is the first of them.
@@ -269,13 +287,14 @@ impl<A> RunQueue<A> {
 
         // Of the classes that are asked only the last can have a task. At most two comparisons show that another has
         // none.
-        ensures counted { steps.new ≤ steps.old + most_comparisons (map.len self.now.tasks) + 6 }
+        ensures counted { comparisons.new
+            ≤ comparisons.old + most_comparisons (map.len self.now.tasks) + 6 }
     {
-        self.classes.first(steps)
+        self.classes.first(comparisons)
     }
 
     /// The highest task with the cookie (`sched_core_find`, kernel/sched/core.c). `None` exactly if no task has it.
-    pub fn first_of<L: Ledger>(&self, cookie: Cookie, steps: &mut Steps<L>) -> Option<Queued>
+    pub fn first_of<L: Ledger>(&self, cookie: Cookie, comparisons: &mut Steps<L>) -> Option<Queued>
         ensures first { result ≡ first_with self.now.cookies cookie }
 
         // If this is the queue of some tasks of a room, it is the first of those with the cookie.
@@ -285,14 +304,15 @@ impl<A> RunQueue<A> {
             result
             ≡ option_map queued_of (first_of (list.filter (λ task. task.cookie == cookie) tasks)) }
 
-        ensures counted { steps.new ≤ steps.old + most_comparisons (map.len self.now.tasks) }
+        ensures counted { comparisons.new
+            ≤ comparisons.old + most_comparisons (map.len self.now.tasks) }
     {
-        self.cookies.first_of(cookie, steps)
+        self.cookies.first_of(cookie, comparisons)
     }
 
     /// The highest task with the cookie of this one that is lower than it (`sched_core_next`,
     /// kernel/sched/core.c). `None` exactly if no task with the cookie is lower.
-    pub fn next_of<L: Ledger>(&self, task: &Queued, steps: &mut Steps<L>) -> Option<Queued>
+    pub fn next_of<L: Ledger>(&self, task: &Queued, comparisons: &mut Steps<L>) -> Option<Queued>
         requires { IsRanked task.now }
         ensures next { result ≡ next_with self.now.cookies task.now }
 
@@ -304,18 +324,19 @@ impl<A> RunQueue<A> {
             result ≡ option_map queued_of (first_of (list.filter
             (λ other. (other.cookie == above.cookie) && goes_before above other) tasks)) }
 
-        ensures counted { steps.new ≤ steps.old + most_comparisons (map.len self.now.tasks) }
+        ensures counted { comparisons.new
+            ≤ comparisons.old + most_comparisons (map.len self.now.tasks) }
     {
-        self.cookies.next_of(task, steps)
+        self.cookies.next_of(task, comparisons)
     }
 
     /// The rank of the first fair task. `None` exactly if there is none.
     #[inline(always)]
-    pub fn least_fair<L: Ledger>(&self, steps: &mut Steps<L>) -> Option<u128>
+    pub fn least_fair<L: Ledger>(&self, comparisons: &mut Steps<L>) -> Option<u128>
         ensures least { result ≡ least_rank_in fair_class self.now.tasks }
-        ensures counted { steps.new ≤ steps.old + 1 }
+        ensures counted { comparisons.new ≤ comparisons.old + 1 }
     {
-        self.classes.least_fair(steps)
+        self.classes.least_fair(comparisons)
     }
 
     /// How many tasks there are.

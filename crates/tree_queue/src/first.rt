@@ -43,12 +43,12 @@ fn is_before(task: &Queued, other: &Queued) -> bool
 
 /// A task enters: it is the first, unless the first is before it.
 #[inline(always)]
-pub fn enter<L: Ledger>(first: &mut Option<Queued>, task: Queued, steps: &mut Steps<L>)
+pub fn enter<L: Ledger>(first: &mut Option<Queued>, task: Queued, comparisons: &mut Steps<L>)
     ensures first { first.new ≡ Some (earlier task first.old) }
-    ensures counted { steps.new ≤ steps.old + 1 }
+    ensures counted { comparisons.new ≤ comparisons.old + 1 }
 {
     if let Some(kept) = first {
-        steps.tick();
+        comparisons.tick();
         if is_before(kept, &task) {
             return;
         }
@@ -83,13 +83,14 @@ pub fn give_cookie(first: &mut Option<Queued>, pid: Pid, cookie: Cookie)
 pub fn find_first<L: Ledger>(
     run: &RunQueue<Closed>,
     table: &TaskTable,
-    steps: &mut Steps<L>,
+    comparisons: &mut Steps<L>,
 ) -> Option<Queued>
     ensures first { (tasks : List SomeQueued) → run.now.tasks ≡ seated tasks →
         All (IsIn table.now.tasks) tasks → result ≡ first_among tasks }
-    ensures counted { steps.new ≤ steps.old + most_comparisons (map.len run.now.tasks) + 6 }
+    ensures counted { comparisons.new
+        ≤ comparisons.old + most_comparisons (map.len run.now.tasks) + 6 }
 {
-    let task = table.find(run.first(steps)?)?;
+    let task = table.find(run.first(comparisons)?)?;
     Some(queued_of(task))
 }
 
@@ -98,13 +99,14 @@ pub fn find_first_with<L: Ledger>(
     run: &RunQueue<Closed>,
     task: Queued,
     table: &TaskTable,
-    steps: &mut Steps<L>,
+    comparisons: &mut Steps<L>,
 ) -> Option<Queued>
     ensures first { (tasks : List SomeQueued) → run.now.tasks ≡ seated tasks →
         All (IsInBut table.now.tasks task) tasks → result ≡ first_among tasks }
-    ensures counted { steps.new ≤ steps.old + most_comparisons (map.len run.now.tasks) + 6 }
+    ensures counted { comparisons.new
+        ≤ comparisons.old + most_comparisons (map.len run.now.tasks) + 6 }
 {
-    let pid = run.first(steps)?;
+    let pid = run.first(comparisons)?;
     if pid == task.pid {
         return Some(task);
     }

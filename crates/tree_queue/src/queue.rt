@@ -56,21 +56,33 @@ impl SiblingQueue for TreeQueue {
         })
     }
 
-    fn put<L: Ledger>(&mut self, _table: &TaskTable, _cpu: Cpu, task: &Task, steps: &mut Steps<L>) {
+    fn put<L: Ledger>(
+        &mut self,
+        _table: &TaskTable,
+        _cpu: Cpu,
+        task: &Task,
+        comparisons: &mut Steps<L>,
+    ) {
         let queued = queued_of(task);
-        enter(&mut self.first, queued, steps);
-        self.run.enqueue(queued, steps);
+        enter(&mut self.first, queued, comparisons);
+        self.run.enqueue(queued, comparisons);
         self.kinds[kind_of(task)] += 1;
         self.lots[lot_of(task.cookie)] += 1;
         self.arrivals.note(task.stamp, task.spec.pid);
     }
 
-    fn take<L: Ledger>(&mut self, table: &TaskTable, _cpu: Cpu, task: &Task, steps: &mut Steps<L>) {
-        self.run.dequeue(&queued_of(task), steps);
+    fn take<L: Ledger>(
+        &mut self,
+        table: &TaskTable,
+        _cpu: Cpu,
+        task: &Task,
+        comparisons: &mut Steps<L>,
+    ) {
+        self.run.dequeue(&queued_of(task), comparisons);
         self.kinds[kind_of(task)] -= 1;
         self.lots[lot_of(task.cookie)] -= 1;
         if is_of(&self.first, task.spec.pid) {
-            self.first = find_first(&self.run, table, steps);
+            self.first = find_first(&self.run, table, comparisons);
         }
     }
 
@@ -81,9 +93,9 @@ impl SiblingQueue for TreeQueue {
         _cpu: Cpu,
         task: &Task,
         cookie: Cookie,
-        steps: &mut Steps<L>,
+        comparisons: &mut Steps<L>,
     ) {
-        self.run.set_cookie(&queued_of(task), cookie, steps);
+        self.run.set_cookie(&queued_of(task), cookie, comparisons);
         give_cookie(&mut self.first, task.spec.pid, cookie);
         self.lots[lot_of(task.cookie)] -= 1;
         self.lots[lot_of(cookie)] += 1;
@@ -96,16 +108,16 @@ impl SiblingQueue for TreeQueue {
         _cpu: Cpu,
         task: &Task,
         vtime: u128,
-        steps: &mut Steps<L>,
+        comparisons: &mut Steps<L>,
     ) {
         let queued = queued_of(task);
         let rank = fair_queue::rank(vtime);
-        self.run.set_fair_rank(&queued, rank, steps);
+        self.run.set_fair_rank(&queued, rank, comparisons);
         let later = Queued { rank, ..queued };
         if is_of(&self.first, task.spec.pid) {
-            self.first = find_first_with(&self.run, later, table, steps);
+            self.first = find_first_with(&self.run, later, table, comparisons);
         } else {
-            enter(&mut self.first, later, steps);
+            enter(&mut self.first, later, comparisons);
         }
     }
 
@@ -130,10 +142,10 @@ impl SiblingQueue for TreeQueue {
         table: &TaskTable,
         _cpu: Cpu,
         movers: &[Pid],
-        steps: &mut Steps<L>,
+        comparisons: &mut Steps<L>,
     ) {
-        self.run.renew(&Renewed { table }, steps);
-        self.first = find_first(&self.run, table, steps);
+        self.run.renew(&Renewed { table }, comparisons);
+        self.first = find_first(&self.run, table, comparisons);
         self.arrivals.renew(table, movers);
     }
 
@@ -142,7 +154,7 @@ impl SiblingQueue for TreeQueue {
         &self,
         _table: &TaskTable,
         _cpu: Cpu,
-        _steps: &mut Steps<L>,
+        _comparisons: &mut Steps<L>,
     ) -> Option<Queued> {
         self.first
     }
@@ -153,12 +165,12 @@ impl SiblingQueue for TreeQueue {
         cookie: Cookie,
         _table: &TaskTable,
         _cpu: Cpu,
-        steps: &mut Steps<L>,
+        comparisons: &mut Steps<L>,
     ) -> Option<Queued> {
         if self.lots[lot_of(cookie)] == 0 {
             return None;
         }
-        self.run.first_of(cookie, steps)
+        self.run.first_of(cookie, comparisons)
     }
 
     fn next_with<L: Ledger>(
@@ -166,9 +178,9 @@ impl SiblingQueue for TreeQueue {
         task: &Task,
         table: &TaskTable,
         _cpu: Cpu,
-        steps: &mut Steps<L>,
+        comparisons: &mut Steps<L>,
     ) -> Option<Task> {
-        task_of(table, self.run.next_of(&queued_of(task), steps)?.pid)
+        task_of(table, self.run.next_of(&queued_of(task), comparisons)?.pid)
     }
 
     #[inline(always)]
@@ -176,7 +188,7 @@ impl SiblingQueue for TreeQueue {
         &self,
         _table: &TaskTable,
         _cpu: Cpu,
-        steps: &mut Steps<L>,
+        comparisons: &mut Steps<L>,
     ) -> Option<u128> {
         // A fair task that is the first of all is the first of the fair ones.
         if let Some(first) = &self.first {
@@ -184,7 +196,7 @@ impl SiblingQueue for TreeQueue {
                 return Some(first.rank);
             }
         }
-        self.run.least_fair(steps)
+        self.run.least_fair(comparisons)
     }
 
     fn has_peer<L: Ledger>(
@@ -192,7 +204,7 @@ impl SiblingQueue for TreeQueue {
         task: &Task,
         _table: &TaskTable,
         cpu: Cpu,
-        _steps: &mut Steps<L>,
+        _comparisons: &mut Steps<L>,
     ) -> bool {
         let own = u16::from(is_on(task, cpu));
         self.kinds[kind_of(task)] > own

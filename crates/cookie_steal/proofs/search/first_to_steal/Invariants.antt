@@ -12,7 +12,7 @@ invariant-loop-next g l =
     let most = g.Q.SiblingQueue.most_compared (length l.table.tasks) in
     record {
       left : IsLeft goes_before all (may_steal (lane_state l.idle) (lane_state l.from)) l.next;
-      compared : l.steps + to_go goes_before all l.next * most ≤ l.fn.steps + (length l.table.tasks + 1) * most;
+      compared : l.comparisons + to_go goes_before all l.next * most ≤ l.fn.comparisons + (length l.table.tasks + 1) * most;
     }
 
 abbrev pub decreases-loop-next : goal.decreases-loop-next

@@ -96,5 +96,5 @@ returns-clause-touches g c =
 pub returns-clause-counted : goal.returns-clause-counted
 returns-clause-counted g c =
     let many = as_many_live (c.touch.new.self, c.args.table.now) (c.enqueue.new.self, c.enqueue.new.table) c.enqueue.ensures.touches.stays.kept in
-    let idles = subst (λ n. c.is_left_idle-idles.new.steps ≤ c.enqueue.new.steps + 1 * g.Q.SiblingQueue.most_compared n) many c.is_left_idle-idles.ensures.counted in
+    let idles = subst (λ n. c.is_left_idle-idles.new.comparisons ≤ c.enqueue.new.comparisons + 1 * g.Q.SiblingQueue.most_compared n) many c.is_left_idle-idles.ensures.counted in
     omega (arith, c.enqueue.ensures.counted, idles)

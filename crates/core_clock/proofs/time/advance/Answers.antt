@@ -45,8 +45,8 @@ pub returns-clause-counted : goal.returns-clause-counted
 returns-clause-counted g c =
     let siblings = length c.args.core.now.lanes.items in
     let grown = c.grow_tasks.new in
-    let end = c.renew_siblings.new.steps in
+    let end = c.renew_siblings.new.comparisons in
     let stays = c.grow_tasks.ensures.changes.stays in
-    let renews = subst (λ n. ComparesFor n (grown.core, grown.table) grown.steps end) (ap (λ (kept : Kept). kept.siblings) stays.kept) c.renew_siblings.ensures.counted in
+    let renews = subst (λ n. ComparesFor n (grown.core, grown.table) grown.comparisons end) (ap (λ (kept : Kept). kept.siblings) stays.kept) c.renew_siblings.ensures.counted in
     and_then (2 * siblings) siblings (3 * siblings) (c.args.core.now, c.args.table.now) _ _ _ (omega arith) c.grow_tasks.ensures.counted
     (later g.met.Q.SiblingQueue.rises siblings (grown.core, grown.table) (c.args.core.now, c.args.table.now) _ _ (no_more_live stays) renews)

@@ -91,4 +91,4 @@ pub returns-clause-counted : goal.returns-clause-counted
 returns-clause-counted g c =
     let lanes = c.args.core.now.lanes in
     let all : c.loop-cpu.cpu ≡ length lanes.items = omega (arith, c.loop-cpu-test.false, c.loop-cpu.auto.cpu-end, c.len-cpu-end.ensures) in
-    subst (λ n. ComparesFor (2 * n) (c.args.core.now, c.args.table.now) c.args.steps.now c.loop-cpu.steps) all c.loop-cpu.invariant.counted
+    subst (λ n. ComparesFor (2 * n) (c.args.core.now, c.args.table.now) c.args.comparisons.now c.loop-cpu.comparisons) all c.loop-cpu.invariant.counted

@@ -7,5 +7,5 @@ use Rattle.core_clock.proofs.time.grow_tasks.Given as goal
 abbrev pub invariant-loop-cpu : goal.invariant-loop-cpu
 invariant-loop-cpu g l = record {
   changes : Changes (l.initial.core, l.initial.table) (l.core, l.table) (grown_with_first l.delta l.cpu);
-  counted : ComparesFor (2 * l.cpu) (l.initial.core, l.initial.table) l.fn.steps l.steps;
+  counted : ComparesFor (2 * l.cpu) (l.initial.core, l.initial.table) l.fn.comparisons l.comparisons;
 }

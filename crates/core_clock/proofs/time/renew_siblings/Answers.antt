@@ -67,7 +67,7 @@ loop-cpu-preserved g c =
     let below : cpu < length c.args.core.now.lanes.items = omega (arith, c.loop-cpu-test.true, c.len-cpu-end.ensures) in
     let inside : cpu < length lanes = omega (arith, below, ap (λ (kept : Kept). kept.siblings) c.loop-cpu.invariant.changes.stays.kept) in
     let here = lane_at lanes cpu lane inside is in
-    let once : ComparesFor 1 old c.loop-cpu.steps c.smallest_vtime.new.steps =
+    let once : ComparesFor 1 old c.loop-cpu.comparisons c.smallest_vtime.new.comparisons =
     omega (arith, c.smallest_vtime.ensures.counted, of_one g.Q.SiblingQueue.most_compared g.met.Q.SiblingQueue.rises c.args.table.now.tasks cpu) in
     let counted = and_then cpu 1 (cpu + 1) old _ _ _ refl c.loop-cpu.invariant.counted once in
     elim c.match-smallest_vtime.branch [
@@ -104,4 +104,4 @@ pub returns-clause-counted : goal.returns-clause-counted
 returns-clause-counted g c =
     let lanes = c.args.core.now.lanes in
     let all : c.loop-cpu.cpu ≡ length lanes.items = omega (arith, c.loop-cpu-test.false, c.loop-cpu.auto.cpu-end, c.len-cpu-end.ensures) in
-    subst (λ n. ComparesFor n (c.args.core.now, c.args.table.now) c.args.steps.now c.loop-cpu.steps) all c.loop-cpu.invariant.counted
+    subst (λ n. ComparesFor n (c.args.core.now, c.args.table.now) c.args.comparisons.now c.loop-cpu.comparisons) all c.loop-cpu.invariant.counted

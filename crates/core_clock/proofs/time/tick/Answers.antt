@@ -114,5 +114,5 @@ in_turn false start peers asks end most one two three = omega (arith, one, two, 
 pub returns-clause-counted : goal.returns-clause-counted
 returns-clause-counted g c =
     let many = as_many_live (c.args.core.now, c.args.table.now) (c.charge.new.core, c.charge.new.table) c.charge.ensures.charges.stays.kept in
-    subst (λ n. c.begin_slice.new.steps ≤ c.args.steps.now + 3 * g.Q.SiblingQueue.most_compared n) many
+    subst (λ n. c.begin_slice.new.comparisons ≤ c.args.comparisons.now + 3 * g.Q.SiblingQueue.most_compared n) many
     (in_turn c.rotates-rotates.result _ _ _ _ _ c.rotates-rotates.ensures.counted c.asks_at_tick-asks.ensures.counted c.begin_slice.ensures.counted)

@@ -18,37 +18,37 @@ counts : {Q G : Type 0} {g : Ghosts Q} (old : State Q G g) (from to : ℕ) {even
 counts old from to is counted = subst (λ (e : Event). ComparesForEvent old e from to) (sym is) counted
 
 pub returns-in-Turn : goal.returns-in-Turn
-returns-in-Turn g c = record { makes = by_event c.in-Turn.is c.turn.ensures.makes; counted = counts c.args.state.now c.args.steps.now c.turn.new.steps c.in-Turn.is c.turn.ensures.counted }
+returns-in-Turn g c = record { makes = by_event c.in-Turn.is c.turn.ensures.makes; counted = counts c.args.state.now c.args.comparisons.now c.turn.new.comparisons c.in-Turn.is c.turn.ensures.counted }
 
 pub returns-in-Resched : goal.returns-in-Resched
-returns-in-Resched g c = record { makes = by_event c.in-Resched.is c.resched.ensures.makes; counted = counts c.args.state.now c.args.steps.now c.resched.new.steps c.in-Resched.is c.resched.ensures.counted }
+returns-in-Resched g c = record { makes = by_event c.in-Resched.is c.resched.ensures.makes; counted = counts c.args.state.now c.args.comparisons.now c.resched.new.comparisons c.in-Resched.is c.resched.ensures.counted }
 
 pub returns-in-Block : goal.returns-in-Block
-returns-in-Block g c = record { makes = by_event c.in-Block.is c.block.ensures.makes; counted = counts c.args.state.now c.args.steps.now c.block.new.steps c.in-Block.is c.block.ensures.counted }
+returns-in-Block g c = record { makes = by_event c.in-Block.is c.block.ensures.makes; counted = counts c.args.state.now c.args.comparisons.now c.block.new.comparisons c.in-Block.is c.block.ensures.counted }
 
 pub returns-in-Exit : goal.returns-in-Exit
-returns-in-Exit g c = record { makes = by_event c.in-Exit.is c.exit.ensures.makes; counted = counts c.args.state.now c.args.steps.now c.exit.new.steps c.in-Exit.is c.exit.ensures.counted }
+returns-in-Exit g c = record { makes = by_event c.in-Exit.is c.exit.ensures.makes; counted = counts c.args.state.now c.args.comparisons.now c.exit.new.comparisons c.in-Exit.is c.exit.ensures.counted }
 
 pub returns-in-Tick : goal.returns-in-Tick
-returns-in-Tick g c = record { makes = by_event c.in-Tick.is c.tick.ensures.makes; counted = counts c.args.state.now c.args.steps.now c.tick.new.steps c.in-Tick.is c.tick.ensures.counted }
+returns-in-Tick g c = record { makes = by_event c.in-Tick.is c.tick.ensures.makes; counted = counts c.args.state.now c.args.comparisons.now c.tick.new.comparisons c.in-Tick.is c.tick.ensures.counted }
 
 pub returns-in-Wake : goal.returns-in-Wake
-returns-in-Wake g c = record { makes = by_event c.in-Wake.is c.wake.ensures.makes; counted = counts c.args.state.now c.args.steps.now c.wake.new.steps c.in-Wake.is c.wake.ensures.counted }
+returns-in-Wake g c = record { makes = by_event c.in-Wake.is c.wake.ensures.makes; counted = counts c.args.state.now c.args.comparisons.now c.wake.new.comparisons c.in-Wake.is c.wake.ensures.counted }
 
 pub returns-in-Advance : goal.returns-in-Advance
-returns-in-Advance g c = record { makes = by_event c.in-Advance.is c.advance.ensures.makes; counted = counts c.args.state.now c.args.steps.now c.advance.new.steps c.in-Advance.is c.advance.ensures.counted }
+returns-in-Advance g c = record { makes = by_event c.in-Advance.is c.advance.ensures.makes; counted = counts c.args.state.now c.args.comparisons.now c.advance.new.comparisons c.in-Advance.is c.advance.ensures.counted }
 
 pub returns-in-Fork : goal.returns-in-Fork
-returns-in-Fork g c = record { makes = by_event c.in-Fork.is c.fork.ensures.makes; counted = counts c.args.state.now c.args.steps.now c.fork.new.steps c.in-Fork.is c.fork.ensures.counted }
+returns-in-Fork g c = record { makes = by_event c.in-Fork.is c.fork.ensures.makes; counted = counts c.args.state.now c.args.comparisons.now c.fork.new.comparisons c.in-Fork.is c.fork.ensures.counted }
 
 pub returns-in-Prctl : goal.returns-in-Prctl
-returns-in-Prctl g c = record { makes = by_event c.in-Prctl.is c.prctl.ensures.makes; counted = counts c.args.state.now c.args.steps.now c.prctl.new.steps c.in-Prctl.is c.prctl.ensures.counted }
+returns-in-Prctl g c = record { makes = by_event c.in-Prctl.is c.prctl.ensures.makes; counted = counts c.args.state.now c.args.comparisons.now c.prctl.new.comparisons c.in-Prctl.is c.prctl.ensures.counted }
 
 pub returns-in-SetSched : goal.returns-in-SetSched
-returns-in-SetSched g c = record { makes = by_event c.in-SetSched.is c.set_policy.ensures.makes; counted = counts c.args.state.now c.args.steps.now c.set_policy.new.steps c.in-SetSched.is c.set_policy.ensures.counted }
+returns-in-SetSched g c = record { makes = by_event c.in-SetSched.is c.set_policy.ensures.makes; counted = counts c.args.state.now c.args.comparisons.now c.set_policy.new.comparisons c.in-SetSched.is c.set_policy.ensures.counted }
 
 pub returns-in-Offline : goal.returns-in-Offline
-returns-in-Offline g c = record { makes = by_event c.in-Offline.is c.take_offline.ensures.makes; counted = counts c.args.state.now c.args.steps.now c.take_offline.new.steps c.in-Offline.is c.take_offline.ensures.counted }
+returns-in-Offline g c = record { makes = by_event c.in-Offline.is c.take_offline.ensures.makes; counted = counts c.args.state.now c.args.comparisons.now c.take_offline.new.comparisons c.in-Offline.is c.take_offline.ensures.counted }
 
 pub returns-in-Online-clause-makes : goal.returns-in-Online-clause-makes
 returns-in-Online-clause-makes g c = by_event c.in-Online.is c.bring_online.ensures
@@ -87,10 +87,10 @@ pub returns-in-Unload-clause-makes : goal.returns-in-Unload-clause-makes
 returns-in-Unload-clause-makes g c = by_event c.in-Unload.is c.unload.ensures
 
 pub returns-in-Online-clause-counted : goal.returns-in-Online-clause-counted
-returns-in-Online-clause-counted g c = le-add_right c.args.steps.now _
+returns-in-Online-clause-counted g c = le-add_right c.args.comparisons.now _
 
 pub returns-in-Load-clause-counted : goal.returns-in-Load-clause-counted
-returns-in-Load-clause-counted g c = le-add_right c.args.steps.now _
+returns-in-Load-clause-counted g c = le-add_right c.args.comparisons.now _
 
 pub returns-in-Unload-clause-counted : goal.returns-in-Unload-clause-counted
-returns-in-Unload-clause-counted g c = le-add_right c.args.steps.now _
+returns-in-Unload-clause-counted g c = le-add_right c.args.comparisons.now _

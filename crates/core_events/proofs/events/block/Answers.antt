@@ -120,10 +120,10 @@ returns-clause-counted g c =
     (schedule_after rises (c.run_idle.new.self, c.put_to_sleep.new.table) (both old) _ _ (as_many_siblings idle) (no_more_live idle) c.pick_and_balance.ensures.counted))
 
 pub returns-then-not-is_online-clause-counted : goal.returns-then-not-is_online-clause-counted
-returns-then-not-is_online-clause-counted g c = le-add_right c.args.steps.now _
+returns-then-not-is_online-clause-counted g c = le-add_right c.args.comparisons.now _
 
 pub returns-in_default-clause-counted : goal.returns-in_default-clause-counted
-returns-in_default-clause-counted g c = le-add_right c.args.steps.now _
+returns-in_default-clause-counted g c = le-add_right c.args.comparisons.now _
 
 pub charge-requires : goal.charge-requires
 charge-requires g c = record { agree = c.requires.ready.sound.agree; paid = c.requires.ready.paid }

@@ -142,13 +142,13 @@ returns-clause-counted g c =
     (as_many_siblings idle ∙ c.end.ensures.touches.stays.siblings ∙ as_many_siblings charged) fewer c.pick_and_balance.ensures.counted))
 
 pub returns-then-not-is_online-clause-counted : goal.returns-then-not-is_online-clause-counted
-returns-then-not-is_online-clause-counted g c = le-add_right c.args.steps.now _
+returns-then-not-is_online-clause-counted g c = le-add_right c.args.comparisons.now _
 
 pub returns-in_default-clause-counted : goal.returns-in_default-clause-counted
-returns-in_default-clause-counted g c = le-add_right c.args.steps.now _
+returns-in_default-clause-counted g c = le-add_right c.args.comparisons.now _
 
 pub returns-then-has_threads-clause-counted : goal.returns-then-has_threads-clause-counted
-returns-then-has_threads-clause-counted g c = le-add_right c.args.steps.now _
+returns-then-has_threads-clause-counted g c = le-add_right c.args.comparisons.now _
 
 pub charge-requires : goal.charge-requires
 charge-requires g c = record { agree = c.requires.ready.sound.agree; paid = c.requires.ready.paid }

@@ -21,8 +21,8 @@ use Rattle.std.proofs.Math.Nat.{le-add_right, mul-le-mul_right, le-max_left, le-
 use Rattle.core_events.proofs.Compared.{for_event}
 use Rattle.core_events.proofs.events.turn.Goals as goal
 
-pub steal-requires : goal.steal-requires
-steal-requires g c = record {
+pub answer_try-requires : goal.answer_try-requires
+answer_try-requires g c = record {
   at = record { cpu = c.requires.cpu; agree = c.requires.ready.sound.agree };
   low = low_times c.args.state.now c.requires.ready.time;
   places = c.requires.ready.spares.places;
@@ -87,7 +87,7 @@ returns-clause-makes g c =
     let old = c.args.state.now in
     let cpu = c.args.cpu in
     let fresh = is_fresh_by (state_numbers old) in
-    let tried = c.steal.ensures.tries.tries in
+    let tried = c.answer_try.ensures.tries.tries in
     record {
       step = λ intervals.
           let room = room_with intervals old in
@@ -97,12 +97,12 @@ returns-clause-makes g c =
           let made = ap (turn_by room fresh cpu) (sym idle)
           ∙ when_online room cpu (turn room fresh cpu) (sym (c.is_online.ensures beside old.tasks) ∙ c.if-not-is_online.false) in
           uncharged (record {
-            reply = c.steal.ensures.tries.answer ∙ tried.reply beside ∙ ap (λ (m : Stepped). m.reply) made;
+            reply = c.answer_try.ensures.tries.answer ∙ tried.reply beside ∙ ap (λ (m : Stepped). m.reply) made;
             room = tried.room beside ∙ ap (λ (m : Stepped). m.room) made;
-            numbers = ap (with_ended old.ended.items) tried.numbers ∙ turn_touches room cpu (state_numbers old) c.steal.ensures.tries.made
-                ∙ ap (λ r. numbers_after room (Turn cpu) r (state_numbers old)) (sym c.steal.ensures.tries.answer);
+            numbers = ap (with_ended old.ended.items) tried.numbers ∙ turn_touches room cpu (state_numbers old) c.answer_try.ensures.tries.made
+                ∙ ap (λ r. numbers_after room (Turn cpu) r (state_numbers old)) (sym c.answer_try.ensures.tries.answer);
           });
-      stays = lifted old (c.steal.new.core, c.steal.new.table) tried.stays;
+      stays = lifted old (c.answer_try.new.core, c.answer_try.new.table) tried.stays;
     }
 
 pub returns-then-lane-clause-counted : goal.returns-then-lane-clause-counted
@@ -116,7 +116,7 @@ pub returns-clause-counted : goal.returns-clause-counted
 returns-clause-counted g c =
     let old = c.args.state.now in
     let tasks = length old.tasks.tasks in
-    for_event g.met.Q.SiblingQueue.rises (tasks + 4) old (Turn c.args.cpu) _ _ (le-max_right (2 * length old.core.lanes.items) (tasks + 4)) c.steal.ensures.counted
+    for_event g.met.Q.SiblingQueue.rises (tasks + 4) old (Turn c.args.cpu) _ _ (le-max_right (2 * length old.core.lanes.items) (tasks + 4)) c.answer_try.ensures.counted
 
 -- a try to steal picks nothing
 never : (made : Try) (pick : Pick) → reply_of made ≡ Picked pick → ⊥
@@ -125,7 +125,7 @@ never (Missed from) pick is = cc
 never NoBalance pick is = cc
 
 pub returns-clause-scheduled : goal.returns-clause-scheduled
-returns-clause-scheduled g c pick is = absurd (never c.steal.ensures.tries.made pick (sym c.steal.ensures.tries.answer ∙ is))
+returns-clause-scheduled g c pick is = absurd (never c.answer_try.ensures.tries.made pick (sym c.answer_try.ensures.tries.answer ∙ is))
 
 pub returns-then-lane-clause-scheduled : goal.returns-then-lane-clause-scheduled
 returns-then-lane-clause-scheduled g c pick is = c.resched.ensures.scheduled
@@ -144,7 +144,7 @@ pub resched-requires : goal.resched-requires
 resched-requires g c = c.requires
 
 pub returns-then-not-is_online-clause-counted : goal.returns-then-not-is_online-clause-counted
-returns-then-not-is_online-clause-counted g c = le-add_right c.args.steps.now _
+returns-then-not-is_online-clause-counted g c = le-add_right c.args.comparisons.now _
 
 pub returns-then-lane-eq0-clause-counted : goal.returns-then-lane-eq0-clause-counted
-returns-then-lane-eq0-clause-counted g c = le-add_right c.args.steps.now _
+returns-then-lane-eq0-clause-counted g c = le-add_right c.args.comparisons.now _

@@ -69,6 +69,6 @@ pub returns-clause-counted : goal.returns-clause-counted
 returns-clause-counted g c longest longer =
     let many = ap (λ (kept : Kept). kept.siblings) c.charge.ensures.charges.stays.kept in
     let tasks = ap (λ (table : Table). table.tasks) c.charge.ensures.table in
-    subst (λ n. c.pick_anew.new.steps ≤ c.args.steps.now + most_of_schedule n (g.Q.SiblingQueue.most_compared longest)) many
+    subst (λ n. c.pick_anew.new.comparisons ≤ c.args.comparisons.now + most_of_schedule n (g.Q.SiblingQueue.most_compared longest)) many
     (c.pick_anew.ensures.counted longest (λ cpu below.
     subst (λ (ts : List Task). length (queued_among ts cpu) ≤ longest) (sym tasks) (longer cpu (subst (λ n. cpu < n) many below))))

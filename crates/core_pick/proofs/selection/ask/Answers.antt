@@ -41,9 +41,9 @@ returns-clause-counted g c longest longer =
     let most = g.Q.SiblingQueue.most_compared longest in
     let whole : own - 0 ≡ own = omega arith in
     let count : c.len-count.result ≡ length c.args.core.now.lanes.items = c.len-count.ensures in
-    all_but_own own (length c.args.core.now.lanes.items) c.args.steps.now c.ask_from-behind.new.steps c.ask_from-lead.new.steps most c.requires.may.at.cpu
-    (subst (λ n. c.ask_from-behind.new.steps ≤ c.args.steps.now + (n - (own + 1)) * most) count (c.ask_from-behind.ensures.counted longest longer))
-    (subst (λ n. c.ask_from-lead.new.steps ≤ c.ask_from-behind.new.steps + n * most) whole (c.ask_from-lead.ensures.counted longest longer))
+    all_but_own own (length c.args.core.now.lanes.items) c.args.comparisons.now c.ask_from-behind.new.comparisons c.ask_from-lead.new.comparisons most c.requires.may.at.cpu
+    (subst (λ n. c.ask_from-behind.new.comparisons ≤ c.args.comparisons.now + (n - (own + 1)) * most) count (c.ask_from-behind.ensures.counted longest longer))
+    (subst (λ n. c.ask_from-lead.new.comparisons ≤ c.ask_from-behind.new.comparisons + n * most) whole (c.ask_from-lead.ensures.counted longest longer))
 
 pub returns-clause-asks : goal.returns-clause-asks
 returns-clause-asks g c = record {

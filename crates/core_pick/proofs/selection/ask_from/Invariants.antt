@@ -11,5 +11,5 @@ invariant-loop-cpu g l = record {
   kept : (beside : Beside) (cpu : ℕ) → IsNoted (room_of beside (l.core, l.table)) l.fn.firsts cpu → IsNoted (room_of beside (l.core, l.table)) l.firsts cpu;
   leads : (beside : Beside) (order : List ℕ) → let room = room_of beside (l.core, l.table) in
       l.fn.before ≡ lead_in room order → l.lead ≡ lead_in room (order ++ range_with_len l.from (l.cpu - l.from));
-  asked : (longest : ℕ) → AreNoLonger longest (l.core, l.table) → l.steps ≤ l.fn.steps + (l.cpu - l.from) * g.Q.SiblingQueue.most_compared longest;
+  asked : (longest : ℕ) → AreNoLonger longest (l.core, l.table) → l.comparisons ≤ l.fn.comparisons + (l.cpu - l.from) * g.Q.SiblingQueue.most_compared longest;
 }

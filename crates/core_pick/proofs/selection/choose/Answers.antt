@@ -93,7 +93,7 @@ loop-cpu-preserved g c =
 pub returns-clause-counted : goal.returns-clause-counted
 returns-clause-counted g c longest longer =
     let all : c.loop-cpu.cpu ≡ length c.args.core.now.lanes.items = omega (arith, c.loop-cpu-test.false, c.loop-cpu.auto.cpu-end, many g (goal.at.returns-clause-counted g c).Start) in
-    subst (λ n. c.loop-cpu.steps ≤ c.args.steps.now + n * g.Q.SiblingQueue.most_compared longest) all (c.loop-cpu.invariant.asked longest longer)
+    subst (λ n. c.loop-cpu.comparisons ≤ c.args.comparisons.now + n * g.Q.SiblingQueue.most_compared longest) all (c.loop-cpu.invariant.asked longest longer)
 
 pub returns-clause-gets : goal.returns-clause-gets
 returns-clause-gets g c = record {

@@ -13,5 +13,5 @@ invariant-loop-cpu g l = record {
       l.choices ≡ map (λ (numbered : ℕ × Choice). choice_of (choice room l.cookie numbered.0)) (enumerate_from 0 (take l.cpu l.initial.choices)) ++ drop l.cpu l.initial.choices;
   forced : (beside : Beside) → l.counts.forced ≡ count_by (gets_none (room_of beside (l.core, l.table)) l.cookie) (range_with_len 0 l.cpu);
   occupation : (beside : Beside) → l.counts.occupation ≡ count_by (gets_task (room_of beside (l.core, l.table)) l.cookie) (range_with_len 0 l.cpu);
-  asked : (longest : ℕ) → AreNoLonger longest (l.core, l.table) → l.steps ≤ l.fn.steps + l.cpu * g.Q.SiblingQueue.most_compared longest;
+  asked : (longest : ℕ) → AreNoLonger longest (l.core, l.table) → l.comparisons ≤ l.fn.comparisons + l.cpu * g.Q.SiblingQueue.most_compared longest;
 }

@@ -44,7 +44,7 @@ loop-other-preserved g c =
     let after = λ (ls : List (Lane g.row.Q.Denot)). ChangesLanes c.args.lanes.now ls (λ siblings. map (left cpu) (enumerate_from 0 (take (other + 1) siblings)) ++ drop (other + 1) siblings) in
     elim c.if-other-cpu.branch [
       | then-other-cpu w ↦
-          subst after (sym w.lanes-is) (one_more cpu other c.args.lanes.now lanes lane w.set_away.new.lane away inside c.loop-other.auto.lanes is w.set_away.ensures
+          subst after (sym w.lanes-is) (one_more cpu other c.args.lanes.now lanes lane w.away.new.lane away inside c.loop-other.auto.lanes is w.away.ensures
           (sym (cond-true (eqb other cpu) (away (lane_state lane)) (stand_by (lane_state lane)) (eq-eqb other cpu w.if-other-cpu.true))) c.loop-other.invariant)
       | else-other-cpu w ↦
           subst after (sym w.lanes-is) (one_more cpu other c.args.lanes.now lanes lane w.stand_by.new.lane stand_by inside c.loop-other.auto.lanes is w.stand_by.ensures

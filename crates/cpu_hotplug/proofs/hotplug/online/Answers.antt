@@ -27,7 +27,7 @@ returns g c table =
     let core = c.args.core.now in
     let lanes = core.lanes.items in
     let lane = c.index_mut.result.now in
-    let after = c.set_back.new.lane in
+    let after = c.back.new.lane in
     let at = lane_at lanes c.args.cpu lane c.requires.cpu c.index_mut.ensures.value in
     record {
       reply = λ beside.
@@ -35,14 +35,14 @@ returns g c table =
           (sym (online_step (room_of beside (core, table)) c.args.cpu false (sym (c.is_online.ensures beside table) ∙ c.if-is_online.false)));
       room = λ beside.
           let room = room_of beside (core, table) in
-          let is : lane_state after ≡ back (sibling_of room c.args.cpu) = c.set_back.ensures.state ∙ ap back (sym at) in
+          let is : lane_state after ≡ back (sibling_of room c.args.cpu) = c.back.ensures.state ∙ ap back (sym at) in
           let states : map lane_state (set lanes c.args.cpu after) ≡ set room.siblings c.args.cpu (back (sibling_of room c.args.cpu)) =
           map-set lane_state lanes c.args.cpu after ∙ ap (set room.siblings c.args.cpu) is in
           (λ i. let next : RoomState = record room { siblings = states i } in next)
           ∙ ap (λ (made : Stepped). made.room) (sym (online_step room c.args.cpu false (sym (c.is_online.ensures beside table) ∙ c.if-is_online.false)));
       numbers =
-          let own = numbers_kept lanes c.args.cpu lane after c.index_mut.ensures.value c.set_back.ensures.number in
+          let own = numbers_kept lanes c.args.cpu lane after c.index_mut.ensures.value c.back.ensures.number in
           λ i. let next : Numbers = record (numbers_of (core, table)) { own = own i } in next;
       unchanged = λ not_done. absurd (not_done refl);
-      stays = alike_stays _ _ (queues_kept lanes c.args.cpu lane after c.index_mut.ensures.value c.set_back.ensures.queue) refl refl;
+      stays = alike_stays _ _ (queues_kept lanes c.args.cpu lane after c.index_mut.ensures.value c.back.ensures.queue) refl refl;
     }

@@ -27,7 +27,7 @@ loop-mover-preserved g c =
     let moved = c.loop-mover.invariant.moved in
     let most = g.Q.SiblingQueue.most_compared in
     let many = as_many_live (c.args.core.now, c.args.table.now) (c.loop-mover.core, c.loop-mover.table) moved.kept in
-    let once = subst (λ n. c.enter.new.steps ≤ c.loop-mover.steps + 1 * most n) many c.enter.ensures.counted in
+    let once = subst (λ n. c.enter.new.comparisons ≤ c.loop-mover.comparisons + 1 * most n) many c.enter.ensures.counted in
     record {
       moved = one_moved c.args.cpu c.args.to c.args.movers.now c.args.core.now c.args.table.now c.requires c.empty_queue.new.movers c.empty_queue.ensures.told
           c.loop-mover.mover-index c.loop-mover-test.true (c.loop-mover.core, c.loop-mover.table) moved (c.enter.new.self, c.enter.new.table) c.enter.ensures.enters;

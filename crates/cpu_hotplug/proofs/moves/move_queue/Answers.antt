@@ -132,4 +132,4 @@ returns-clause-touches g c =
 pub returns-clause-counted : goal.returns-clause-counted
 returns-clause-counted g c =
     let many = as_many_live (c.args.core.now, c.args.table.now) (c.place.new.self, c.place.new.table) (moved g (goal.at.returns-clause-counted g c).After-place).kept in
-    subst (λ n. c.exchange.new.steps ≤ c.args.steps.now + 3 * g.Q.SiblingQueue.most_compared n) many c.exchange.ensures.counted
+    subst (λ n. c.exchange.new.comparisons ≤ c.args.comparisons.now + 3 * g.Q.SiblingQueue.most_compared n) many c.exchange.ensures.counted

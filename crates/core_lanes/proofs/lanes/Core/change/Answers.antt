@@ -75,5 +75,5 @@ returns-clause-changes g c =
 pub returns-clause-counted : goal.returns-clause-counted
 returns-clause-counted g c =
     let many = ap (λ (t : Table). length t.tasks) c.change-2.ensures.changed ∙ length-map c.args.table.now.tasks (replaced_by c.args.task) in
-    let put = subst (λ n. c.put.new.steps ≤ c.take.new.steps + 1 * g.Q.SiblingQueue.most_compared n) many c.put.ensures.counted in
+    let put = subst (λ n. c.put.new.comparisons ≤ c.take.new.comparisons + 1 * g.Q.SiblingQueue.most_compared n) many c.put.ensures.counted in
     omega (arith, c.take.ensures.counted, put)

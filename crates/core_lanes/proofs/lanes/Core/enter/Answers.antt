@@ -227,5 +227,5 @@ returns-clause-enters g c =
 pub returns-clause-counted : goal.returns-clause-counted
 returns-clause-counted g c =
     let many = as_many_live (c.args.self.now, c.args.table.now) (c.place.new.self, c.place.new.table) (placed g (goal.at.returns-clause-counted g c).After-place).kept in
-    let put : c.put.new.steps ≤ c.args.steps.now + 1 * g.Q.SiblingQueue.most_compared (length c.place.new.table.tasks) = omega (arith, c.put.ensures.counted, of_one g.Q.SiblingQueue.most_compared g.met.Q.SiblingQueue.rises c.place.new.table.tasks c.args.to) in
-    subst (λ n. c.put.new.steps ≤ c.args.steps.now + 1 * g.Q.SiblingQueue.most_compared n) many put
+    let put : c.put.new.comparisons ≤ c.args.comparisons.now + 1 * g.Q.SiblingQueue.most_compared (length c.place.new.table.tasks) = omega (arith, c.put.ensures.counted, of_one g.Q.SiblingQueue.most_compared g.met.Q.SiblingQueue.rises c.place.new.table.tasks c.args.to) in
+    subst (λ n. c.put.new.comparisons ≤ c.args.comparisons.now + 1 * g.Q.SiblingQueue.most_compared n) many put

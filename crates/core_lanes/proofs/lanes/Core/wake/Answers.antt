@@ -119,5 +119,5 @@ touch-requires g c = subst (λ n. n + 1 < 2 ^ 64) (sym (ap (λ (b : BareCore). b
 
 pub returns-clause-counted : goal.returns-clause-counted
 returns-clause-counted g c =
-    subst (λ n. c.put.new.steps ≤ c.args.steps.now + 1 * g.Q.SiblingQueue.most_compared n)
+    subst (λ n. c.put.new.comparisons ≤ c.args.comparisons.now + 1 * g.Q.SiblingQueue.most_compared n)
     (ap (λ (table : Table). length table.tasks) c.queue_up.ensures.queued ∙ length-map _ _) c.put.ensures.counted

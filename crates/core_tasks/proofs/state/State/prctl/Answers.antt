@@ -89,4 +89,4 @@ pub plan-planned-requires-clause-asked : goal.plan-planned-requires-clause-asked
 plan-planned-requires-clause-asked g c = c.requires.asked
 
 pub returns-in-Answer-clause-counted : goal.returns-in-Answer-clause-counted
-returns-in-Answer-clause-counted g c = le-add_right c.args.steps.now _
+returns-in-Answer-clause-counted g c = le-add_right c.args.comparisons.now _

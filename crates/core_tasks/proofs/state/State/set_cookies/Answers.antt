@@ -71,7 +71,7 @@ returns-in-Some-clause-counted g c =
     )
 
 pub returns-in-Nobody-clause-counted : goal.returns-in-Nobody-clause-counted
-returns-in-Nobody-clause-counted g c = le-add_right c.args.steps.now _
+returns-in-Nobody-clause-counted g c = le-add_right c.args.comparisons.now _
 
 pub returns-in_default-clause-counted : goal.returns-in_default-clause-counted
-returns-in_default-clause-counted g c = le-add_right c.args.steps.now _
+returns-in_default-clause-counted g c = le-add_right c.args.comparisons.now _

@@ -70,8 +70,8 @@ loop-preserved g c =
       left = omega (arith, ap length is, c.loop.invariant.left);
       compared =
           let many = as_many_set (room_with [] c.args.self.now) (room_with [] c.loop.self) (setting all c.args.cookie) (setting left c.args.cookie) (c.loop.invariant.room []) in
-          one_less c.args.steps.now c.loop.steps c.set_cookie.new.steps (length left) (length rest) (length all) _ (ap length is) c.loop.invariant.compared
-          (subst (λ n. c.set_cookie.new.steps ≤ c.loop.steps + 1 * g.Q.SiblingQueue.most_compared n) many c.set_cookie.ensures.counted);
+          one_less c.args.comparisons.now c.loop.comparisons c.set_cookie.new.comparisons (length left) (length rest) (length all) _ (ap length is) c.loop.invariant.compared
+          (subst (λ n. c.set_cookie.new.comparisons ≤ c.loop.comparisons + 1 * g.Q.SiblingQueue.most_compared n) many c.set_cookie.ensures.counted);
     }
 
 pub returns-clause-sets : goal.returns-clause-sets

@@ -19,6 +19,6 @@ invariant-loop g l =
       own : RunTheirOwn (both l.self);
       room : (intervals : List Interval) → set_cookies (room_with intervals l.self) (setting left l.cookie) ≡ set_cookies (room_with intervals l.initial.self) (setting all l.cookie);
       numbers : touched (setting_touches (setting left l.cookie)) (state_numbers l.self) ≡ touched (setting_touches (setting all l.cookie)) (state_numbers l.initial.self);
-      compared : l.steps + length left * most ≤ l.fn.steps + length all * most;
+      compared : l.comparisons + length left * most ≤ l.fn.comparisons + length all * most;
       left : length left + l.counter ≤ l.end;
     }

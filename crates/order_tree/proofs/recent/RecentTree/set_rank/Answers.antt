@@ -74,6 +74,6 @@ returns-clause-spare g c = rw (← c.self.view_is) (omega (arith, c.put_beside.e
 
 pub returns-clause-counted : goal.returns-clause-counted
 returns-clause-counted g c =
-    let within = within-recent c.self.inside.recent c.self.inside.tree c.self.invariant c.args.steps.now c.remove.new.steps
+    let within = within-recent c.self.inside.recent c.self.inside.tree c.self.invariant c.args.comparisons.now c.remove.new.comparisons
     (omega (arith, c.is_at.ensures.counted, c.remove.ensures.counted)) in
     rw (← c.self.view_is, ← left g c.before) (omega (arith, within, c.put_beside.ensures.counted))

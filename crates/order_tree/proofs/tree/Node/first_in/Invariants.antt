@@ -8,7 +8,7 @@ use Rattle.order_tree.proofs.tree.Node.first_in.Given as goal
 abbrev pub invariant-loop-tree : goal.invariant-loop-tree
 invariant-loop-tree g l = record {
   found : option_or (sought (start_of l.group) true l.tree.entries) (Some (entry_in l.found)) ≡ option_or (sought (start_of l.group) true l.self.left.entries) (Some (entry_in l.self));
-  counted : l.steps + l.tree.height ≤ l.initial.steps + l.self.left.height;
+  counted : l.comparisons + l.tree.height ≤ l.initial.comparisons + l.self.left.height;
 }
 
 abbrev pub decreases-loop-tree : goal.decreases-loop-tree

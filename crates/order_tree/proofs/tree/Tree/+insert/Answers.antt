@@ -17,7 +17,7 @@ insert-returns g t c =
       height = c.insert_below.ensures.height ∙ ap (λ (b : Branch). b.height + cond c.insert_below.result 1 0) seen;
       many_before = many_of at.root;
       many = c.insert_below.ensures.even.fork.many;
-      counted = subst (λ (b : Branch). c.insert_below.new.steps ≤ c.args.steps.now + b.height) seen c.insert_below.ensures.counted;
+      counted = subst (λ (b : Branch). c.insert_below.new.comparisons ≤ c.args.comparisons.now + b.height) seen c.insert_below.ensures.counted;
     }
 
 -- ---- the left side
@@ -37,7 +37,7 @@ insert_below-returns-then-not-insert g t c =
       even = IsEven-from (record c.deref_mut.result.now { left = c.insert.new.self }) (sides-left at c.insert.new.self put.rising c.insert.ensures.many) (leans-left at c.insert.new.self same);
       entries = put.entries;
       height = no_more _ _ (sym (levels-left at c.insert.new.self same));
-      counted = counted-left at.root c.args.steps.now c.tick.new.self c.insert.new.steps c.tick.ensures c.insert.ensures.counted;
+      counted = counted-left at.root c.args.comparisons.now c.tick.new.self c.insert.new.comparisons c.tick.ensures c.insert.ensures.counted;
     }
 
 pub insert_below-lean_left-requires : goal.insert_below-lean_left-requires
@@ -60,7 +60,7 @@ insert_below-returns-then-is_below g t c =
       even = c.lean_left.ensures.even;
       entries = c.lean_left.ensures.entries ∙ put.entries;
       height = c.lean_left.ensures.height ∙ ap (λ h. h + cond c.lean_left.result 1 0) grown;
-      counted = counted-left at.root c.args.steps.now c.tick.new.self c.insert.new.steps c.tick.ensures c.insert.ensures.counted;
+      counted = counted-left at.root c.args.comparisons.now c.tick.new.self c.insert.new.comparisons c.tick.ensures c.insert.ensures.counted;
     }
 
 -- ---- the right side
@@ -80,7 +80,7 @@ insert_below-returns-then-not-insert-2 g t c =
       even = IsEven-from (record c.deref_mut.result.now { right = c.insert-2.new.self }) (sides-right at c.insert-2.new.self put.rising c.insert-2.ensures.many) (leans-right at c.insert-2.new.self same);
       entries = put.entries;
       height = no_more _ _ (sym (levels-right at c.insert-2.new.self same));
-      counted = counted-right at.root c.args.steps.now c.tick.new.self c.insert-2.new.steps c.tick.ensures c.insert-2.ensures.counted;
+      counted = counted-right at.root c.args.comparisons.now c.tick.new.self c.insert-2.new.comparisons c.tick.ensures c.insert-2.ensures.counted;
     }
 
 pub insert_below-lean_right-requires : goal.insert_below-lean_right-requires
@@ -103,5 +103,5 @@ insert_below-returns g t c =
       even = c.lean_right.ensures.even;
       entries = c.lean_right.ensures.entries ∙ put.entries;
       height = c.lean_right.ensures.height ∙ ap (λ h. h + cond c.lean_right.result 1 0) grown;
-      counted = counted-right at.root c.args.steps.now c.tick.new.self c.insert-2.new.steps c.tick.ensures c.insert-2.ensures.counted;
+      counted = counted-right at.root c.args.comparisons.now c.tick.new.self c.insert-2.new.comparisons c.tick.ensures c.insert-2.ensures.counted;
     }

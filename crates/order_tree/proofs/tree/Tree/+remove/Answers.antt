@@ -22,7 +22,7 @@ returns-then-not-remove g t c =
       height = no_more _ _ (levels-left at c.remove.new.self (level_kept _ _ c.remove.ensures.height c.if-not-remove.true));
       many_before = many_of at.root;
       many = (invariant_of-self-then-not-remove g t c).fork.many;
-      counted = counted-left at.root c.args.steps.now c.tick.new.self c.remove.new.steps c.tick.ensures c.remove.ensures.counted;
+      counted = counted-left at.root c.args.comparisons.now c.tick.new.self c.remove.new.comparisons c.tick.ensures c.remove.ensures.counted;
     }
 
 pub lean_right-requires : goal.lean_right-requires
@@ -44,7 +44,7 @@ returns-else-not-remove g t c =
       height = lowered _ (right_levels (record c.deref_mut.result.now { left = c.remove.new.self })) (under c.lean_right.new.root.value).height c.lean_right.result lower c.lean_right.ensures.height;
       many_before = many_of at.root;
       many = c.lean_right.ensures.even.fork.many;
-      counted = counted-left at.root c.args.steps.now c.tick.new.self c.remove.new.steps c.tick.ensures c.remove.ensures.counted;
+      counted = counted-left at.root c.args.comparisons.now c.tick.new.self c.remove.new.comparisons c.tick.ensures c.remove.ensures.counted;
     }
 
 -- ---- the root
@@ -59,7 +59,7 @@ returns-in-Equal g t c =
       height = at.root.fork.one_more ∙ levels;
       many_before = many_of at.root;
       many = many_balanced c.uproot.new.root c.uproot.ensures.balanced;
-      counted = counted-root at.root c.args.steps.now c.tick.new.self c.tick.ensures;
+      counted = counted-root at.root c.args.comparisons.now c.tick.new.self c.tick.ensures;
     }
 
 -- ---- the right side
@@ -79,7 +79,7 @@ returns-then-not-remove-2 g t c =
       height = no_more _ _ (levels-right at c.remove-in-Greater.new.self (level_kept _ _ c.remove-in-Greater.ensures.height c.if-not-remove-2.true));
       many_before = many_of at.root;
       many = (invariant_of-self-then-not-remove-2 g t c).fork.many;
-      counted = counted-right at.root c.args.steps.now c.tick.new.self c.remove-in-Greater.new.steps c.tick.ensures c.remove-in-Greater.ensures.counted;
+      counted = counted-right at.root c.args.comparisons.now c.tick.new.self c.remove-in-Greater.new.comparisons c.tick.ensures c.remove-in-Greater.ensures.counted;
     }
 
 pub lean_left-requires : goal.lean_left-requires
@@ -101,5 +101,5 @@ returns-else-not-remove-2 g t c =
       height = lowered _ (left_levels (record c.deref_mut.result.now { right = c.remove-in-Greater.new.self })) (under c.lean_left.new.root.value).height c.lean_left.result lower c.lean_left.ensures.height;
       many_before = many_of at.root;
       many = c.lean_left.ensures.even.fork.many;
-      counted = counted-right at.root c.args.steps.now c.tick.new.self c.remove-in-Greater.new.steps c.tick.ensures c.remove-in-Greater.ensures.counted;
+      counted = counted-right at.root c.args.comparisons.now c.tick.new.self c.remove-in-Greater.new.comparisons c.tick.ensures c.remove-in-Greater.ensures.counted;
     }

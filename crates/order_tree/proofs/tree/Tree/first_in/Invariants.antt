@@ -8,7 +8,7 @@ abbrev pub invariant-loop-tree : goal.invariant-loop-tree
 invariant-loop-tree g l = record {
   found : sought (start_of l.group) true l.tree.entries ≡ sought (start_of l.group) true l.self.entries;
   shallow : l.tree.height ≤ 2 * digits (length l.tree.entries) → l.self.height ≤ 2 * digits (length l.self.entries);
-  counted : l.steps + l.tree.height ≤ l.initial.steps + l.self.height;
+  counted : l.comparisons + l.tree.height ≤ l.initial.comparisons + l.self.height;
 }
 
 abbrev pub decreases-loop-tree : goal.decreases-loop-tree
