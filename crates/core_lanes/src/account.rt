@@ -19,7 +19,7 @@ use task_table::TaskTable;
 type Charged = ArrayVec<Pid, MOST_SIBLINGS>;
 
 /// The task that is charged for a sibling: what waits for it, or, if nothing waits, what it runs; if it is online and
-/// that has a cookie.
+/// that is a task.
 fn charged_on<Q: SiblingQueue>(core: &Core<Q>, table: &TaskTable, cpu: Cpu) -> Option<Pid>
     requires { cpu < length core.now.lanes.items }
     ensures task { (beside : Beside) →
@@ -35,11 +35,7 @@ fn charged_on<Q: SiblingQueue>(core: &Core<Q>, table: &TaskTable, cpu: Cpu) -> O
         None => lane.run?,
     };
     let task = table.find(pid)?;
-    if task.cookie != 0 {
-        Some(task.spec.pid)
-    } else {
-        None
-    }
+    Some(task.spec.pid)
 }
 
 /// Puts into the empty list the tasks that are charged, by rising sibling.

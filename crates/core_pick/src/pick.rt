@@ -131,7 +131,7 @@ fn select_for<Q: SiblingQueue, L: Ledger>(
     let Counts { forced, occupation } = choose(choices, core, table, cookie, comparisons);
     let renews = renews_snapshots(core.account.count(), forced);
     core.cookie = cookie;
-    core.account.begin(cookie, forced, occupation, now);
+    core.account.begin(forced, occupation, now);
     update(&mut core.lanes, table, cpu, choices, occupation, renews);
     choices[cpu as usize].run()
 }

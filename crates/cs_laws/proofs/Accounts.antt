@@ -214,24 +214,21 @@ accounted-charge most entries room some is =
 -- ---- a pick that adopts nothing, once the open interval is charged
 
 -- an interval opens, or none, where all time has been charged
-accounted_anew : (most entries : ℕ) (account : Account) (forced occupation core : ℕ) → charged_up_to account ≡ account.clock → forced ≤ most → (0 < forced → 0 < occupation) →
+accounted_anew : (most entries : ℕ) (account : Account) (forced occupation : ℕ) → charged_up_to account ≡ account.clock → forced ≤ most → (0 < forced → 0 < occupation) →
     IsAccounted most entries account →
-    IsAccounted most entries (record account { forced = forced; occupation = occupation; started = cond (eqb forced 0 || eqb core 0) None (Some account.clock) })
-accounted_anew most entries account forced occupation core now few occupied is =
-    let at_now = cond_both (eqb forced 0 || eqb core 0) None (Some account.clock) (λ started. unwrap_or started account.clock ≡ account.clock) (λ _. refl) (λ _. refl) in
+    IsAccounted most entries (record account { forced = forced; occupation = occupation; started = cond (eqb forced 0) None (Some account.clock) })
+accounted_anew most entries account forced occupation now few occupied is =
+    let at_now = cond_both (eqb forced 0) None (Some account.clock) (λ started. unwrap_or started account.clock ≡ account.clock) (λ _. refl) (λ _. refl) in
     record {
       started = omega (arith, at_now);
       few = few;
       totals = λ pid. omega (arith, is.totals pid, ap (λ n. most * n) now, ap (λ n. most * n) at_now);
       intervals = is.intervals;
-      opened = cond_both (eqb forced 0 || eqb core 0) None (Some account.clock) (λ started. IfSome started (λ start. 0 < forced)) (λ _. tt)
-          (λ some. let none : forced ≢ 0 = eqb-false forced 0 (left (eqb forced 0) (eqb core 0) some) in omega (arith, none));
+      opened = cond_both (eqb forced 0) None (Some account.clock) (λ started. IfSome started (λ start. 0 < forced)) (λ _. tt)
+          (λ some. let none : forced ≢ 0 = eqb-false forced 0 some in omega (arith, none));
       occupied = occupied;
       divisors = is.divisors;
-    } where
-      left : (a b : Bool) → (a || b) ≡ false → a ≡ false
-      left true b none = none
-      left false b none = refl
+    }
 
 -- no more siblings are forced idle than there are
 forced_count-le : (room : RoomState) (core : ℕ) → forced_count room core ≤ length room.siblings
@@ -249,14 +246,14 @@ accounted-select : (most entries : ℕ) (room : RoomState) (cpu : ℕ) → cpu <
 unfolding select_for
 accounted-select most entries room cpu below few now is =
     let core = cookie_of (lead_from room cpu) in
-    accounted_anew most entries (account_of room) (forced_count room core) (occupation_of room core) core now
+    accounted_anew most entries (account_of room) (forced_count room core) (occupation_of room core) now
     (omega (arith, forced_count-le room core, few)) (occupied room cpu below) is
 
 accounted-pick_anew : (most entries : ℕ) (room : RoomState) (cpu : ℕ) → cpu < length room.siblings → length room.siblings ≤ most →
     charged_up_to (account_of room) ≡ room.clock → IsAccounted most entries (account_of room) → IsAccounted most entries (account_of (pick_anew room cpu).room)
 accounted-pick_anew most entries room cpu below few now is =
     cond_both (is_plain room cpu) (pick_plain room cpu) (select room cpu) (λ (made : Scheduled). IsAccounted most entries (account_of made.room))
-    (λ _. accounted_anew most entries (account_of room) 0 0 0 now (omega arith) (λ none. none) is)
+    (λ _. accounted_anew most entries (account_of room) 0 0 now (omega arith) (λ none. none) is)
     (λ _. accounted-select most entries room cpu below few now is)
 
 -- after a charge the schedule records nothing more
@@ -365,7 +362,7 @@ module _ (most done : ℕ) (some : 1 ≤ most) (room : RoomState) (few : length 
   accounted-take_offline cpu =
       cond_both (not (is_online room cpu)) _ _ GoesOn (λ _. stays)
       (λ _. cond_both (length (online room) == 1) _ _ GoesOn (λ _. stays)
-      (λ _. accounted_anew most (done + 1) (account_of (charge room)) 0 0 0 (now-charge room) (omega arith) (λ none. none) paid))
+      (λ _. accounted_anew most (done + 1) (account_of (charge room)) 0 0 (now-charge room) (omega arith) (λ none. none) paid))
 
   accounted-bring_online : (cpu : ℕ) → GoesOn (bring_online room cpu)
   accounted-bring_online cpu = cond_both (is_online room cpu) _ _ GoesOn (λ _. stays) (λ _. stays)

@@ -20,7 +20,7 @@ use Rattle.cs_types.specs.declared.reply.Entry.{Entry}
 use Rattle.cs_types.specs.Scenario.{IsEvent}
 use Rattle.cs_types.specs.Room.{Opening, RoomState, SiblingState, Interval, Waiting, idle, absent, is_online, online, sibling_of, running_on, task_of, to_run, with_sibling, with_task, flag}
 use Rattle.cs_types.specs.Selection.{Scheduled, choice, pid_of, running, sibling_after_selection, occupation_of, forced_count, lead_from, cookie_of, select_for, select, pick_plain, is_plain, pick_anew, adopt_or_pick_anew, balance, schedule}
-use Rattle.cs_types.specs.Accounting.{charged_time, forced_time, pid_with_cookie, charged_on, charged, up_to_now, charge}
+use Rattle.cs_types.specs.Accounting.{charged_time, forced_time, charged_on, charged, up_to_now, charge}
 use Rattle.cs_types.specs.Time.{with_growth, advanced, begin_slice}
 use Rattle.cs_types.specs.Prctl.{asked_by_call, Setting, setting_of, runs_one, makes_cookie, with_used, with_answer, prctl_answer}
 use Rattle.cs_types.specs.Step.{Stepped, step, wake, turn, block, exit, fork, may_not_fork, child_of, with_child, child_at_home, tick, without, has_threads, run_idle, try_steal, unless_offline, with_policy, requeue, set_policy, take_offline, bring_online}
@@ -137,7 +137,7 @@ unfolding charged
 length-charged room =
     found_few (is_online room) (charged_on room) 0 room.siblings
     (λ i m at up isnt. nobody m up (subst (λ k. is_busy (get_or room.siblings k absent) ≡ false) (omega (arith, at)) isnt)) where
-      idles : (run : Option ℕ) → is_some run ≡ false → pid_with_cookie (option_and_then (task_of room) run) ≡ None
+      idles : (run : Option ℕ) → is_some run ≡ false → option_map (λ (task : Task). task.spec.pid) (option_and_then (task_of room) run) ≡ None
       idles None isnt = refl
       idles (Some pid) isnt = absurd cc
 
@@ -248,7 +248,7 @@ shared-pick_anew room cpu lasts no_more =
     cond_both (is_plain room cpu) (pick_plain room cpu) (select room cpu) (λ (made : Scheduled). KeepsShares made.room)
     (λ _. record { opened = tt; lasts = lasts; no_more = no_more })
     (λ _. record {
-      opened = cond_both (eqb (forced_count room core) 0 || eqb core 0) None (Some room.clock) (λ started. IfSome started (λ start. number_busy (busy (select_for room cpu core)) ≤ occupation_of room core))
+      opened = cond_both (eqb (forced_count room core) 0) None (Some room.clock) (λ started. IfSome started (λ start. number_busy (busy (select_for room cpu core)) ≤ occupation_of room core))
           (λ _. tt) (λ _. busy-select_for room cpu core);
       lasts = lasts;
       no_more = no_more;

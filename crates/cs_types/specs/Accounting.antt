@@ -36,15 +36,10 @@ total_of pid intervals = sum_by share (filter (charges pid) intervals)
 
 -- ---- what is charged
 
--- the pid of a task that has a cookie, none for idle and for a task without
-abbrev pub pid_with_cookie : Option Task → Option ℕ
-pid_with_cookie None = None
-pid_with_cookie (Some task) = if task.cookie == 0 then None else Some task.spec.pid
-
--- who is charged for a sibling: what it is to run, if that is a task with a cookie (`core_pick`, `rq->curr`; that it
--- needs a cookie is 5.19's rule, and no longer 6.0's)
+-- who is charged for a sibling: what it is to run, if that is a task (`core_pick`, `rq->curr`; that a task without a
+-- cookie is charged too is the rule since 6.0, and not yet 5.19's)
 abbrev pub charged_on : RoomState → ℕ → Option ℕ
-charged_on room cpu = pid_with_cookie (option_and_then (task_of room) (to_run (sibling_of room cpu)))
+charged_on room cpu = option_map (λ task. task.spec.pid) (option_and_then (task_of room) (to_run (sibling_of room cpu)))
 
 -- who is charged: of each online sibling, by rising sibling
 unfoldable pub charged : RoomState → List ℕ

@@ -162,7 +162,7 @@ task_after_selection room core task =
     record task { occupation = if is_chosen room core task.spec.pid then occupation_of room core else task.occupation }
 
 -- the room once the online siblings have their choices for this core cookie. An interval of forced idle opens if some
--- sibling is forced idle and the core has a cookie (that it needs one is 5.19's rule, and no longer 6.0's).
+-- sibling is forced idle (that it opens under core cookie 0 too is the rule since 6.0, and not yet 5.19's).
 unfoldable pub select_for : RoomState → ℕ → ℕ → RoomState
 select_for room cpu core =
     record room {
@@ -174,7 +174,7 @@ select_for room cpu core =
       core_cookie = core;
       forced = forced_count room core;
       occupation = occupation_of room core;
-      started = if (forced_count room core == 0) || (core == 0) then None else Some room.clock;
+      started = if forced_count room core == 0 then None else Some room.clock;
     }
 
 -- The core's cookie becomes the lead's, and each online sibling gets its choice for it.

@@ -6,7 +6,6 @@ ghost use Rattle.cs_types.specs.Accounting.{share, open_interval};
 ghost use Rattle.cs_types.specs.Room.{RoomState, Interval};
 ghost use Rattle.forceidle_account.specs.Account.{IsAccountOf};
 
-use cs_types::Cookie;
 use std::marker::Model;
 
 /// How the siblings of a core are forced idle since the last core-wide selection
@@ -49,25 +48,19 @@ impl ForceIdle {
 
     /// A core-wide selection at `now`, in ns from the start and below 2^56, has forced `count`
     /// siblings idle, and chosen a task for `occupation`, 0 to 255 each. The interval begins if a
-    /// sibling is forced idle under a core cookie, 0 for none, and else none is open
-    /// (`pick_next_task`, kernel/sched/core.c; that it asks for a cookie is 5.19's rule, and no longer
-    /// 6.0's). One that was open before is not charged here.
-    pub fn begin(&mut self, core: Cookie, count: u8, occupation: u8, now: u64)
+    /// sibling is forced idle, and else none is open (`pick_next_task`, kernel/sched/core.c; that it
+    /// asks for no core cookie is the rule since 6.0). One that was open before is not charged here.
+    pub fn begin(&mut self, count: u8, occupation: u8, now: u64)
         requires occupied { 0 < count → 0 < occupation }
         requires now { now < 2 ^ 56 }
         ensures count { self.new.count ≡ count }
         ensures occupation { self.new.occupation ≡ occupation }
-        ensures started { self.new.started ≡
-            (if count == 0 || core == 0 then None else Some now) }
+        ensures started { self.new.started ≡ (if count == 0 then None else Some now) }
         ensures intervals { self.new.intervals ≡ self.old.intervals }
     {
         self.count = count;
         self.occupation = occupation;
-        self.started = if count == 0 || core == 0 {
-            None
-        } else {
-            Some(now)
-        };
+        self.started = (count > 0).then_some(now);
     }
 
     /// Records the interval that is open up to `now`, in ns from the start and below 2^56, and goes

@@ -7,7 +7,7 @@ ghost use Rattle.cs_types.specs.Guards.{guards_on_bench};
 
 use cookie_refs::{CookieFull, CookieRefs};
 use cs_outside::PairGuard;
-use cs_types::{Ask, Cookie, Creds, Errno, Pid, Policy, Reply, Task, TaskSpec};
+use cs_types::{Ask, Creds, Errno, Pid, Policy, Reply, Task, TaskSpec};
 use forceidle_account::ForceIdle;
 use fork_inherit::{ForkFault, HasThreads, end, fork};
 use prctl_core::{Decision, Planned, Target, plan};
@@ -449,19 +449,12 @@ fn expect_account(rt: &impl Abort, account: &ForceIdle, count: u8, occupation: u
 
 /// Expects this share of an interval that begins at 0 and is charged at `now`, in ns. None is charged
 /// after it is closed.
-fn expect_share(
-    rt: &impl Abort,
-    core: Cookie,
-    count: u8,
-    occupation: u8,
-    now: u64,
-    wanted: Option<u64>,
-)
+fn expect_share(rt: &impl Abort, count: u8, occupation: u8, now: u64, wanted: Option<u64>)
     requires occupied { 0 < count → 0 < occupation }
     requires now { now < 2 ^ 56 }
 {
     let mut account = ForceIdle::closed();
-    account.begin(core, count, occupation, 0);
+    account.begin(count, occupation, 0);
     expect_account(rt, &account, count, occupation);
     assert!(rt; account.charge(now) == wanted);
     assert!(rt; account.intervals() == wanted.is_some() as u64);
@@ -470,14 +463,13 @@ fn expect_share(
     assert!(rt; account.charge(now).is_none());
 }
 
-// Of the whole time, of two siblings for two tasks, of one for three rounded down, and of none: under
-// cookie 0, if no sibling is forced idle, and if no time has passed.
+// Of the whole time, of two siblings for two tasks, of one for three rounded down, and of none: if no
+// sibling is forced idle, and if no time has passed.
 #[test]
 fn shares_of_an_interval(rt: HostRuntime) {
-    expect_share(&rt, 1, 1, 1, 10, Some(10));
-    expect_share(&rt, 1, 2, 2, 7, Some(7));
-    expect_share(&rt, 1, 1, 3, 10, Some(3));
-    expect_share(&rt, 0, 1, 1, 10, None);
-    expect_share(&rt, 1, 0, 2, 10, None);
-    expect_share(&rt, 1, 1, 1, 0, None);
+    expect_share(&rt, 1, 1, 10, Some(10));
+    expect_share(&rt, 2, 2, 7, Some(7));
+    expect_share(&rt, 1, 3, 10, Some(3));
+    expect_share(&rt, 0, 2, 10, None);
+    expect_share(&rt, 1, 1, 0, None);
 }

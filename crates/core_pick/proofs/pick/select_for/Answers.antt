@@ -71,7 +71,7 @@ returns-clause-selects g c = record {
       let occupation = (c.choose-forced.ensures.gets.counts_are now).occupation in
       let begun = c.begin.ensures.count ∙ forced in
       let chosen = c.begin.ensures.occupation ∙ occupation in
-      let started = c.begin.ensures.started ∙ ap (λ n. cond ((n == 0) || (c.args.cookie == 0)) None (Some c.args.now)) forced in
+      let started = c.begin.ensures.started ∙ ap (λ n. cond (n == 0) None (Some c.args.now)) forced in
       let kept_lanes = with_items_is c.args.core.now.lanes c.update.new.lanes (c.update.auto.lanes ∙ ap length c.deref_mut.ensures.value) in
       let siblings = ap (map lane_state) kept_lanes
       ∙ (c.update.ensures.hands room c.args.cookie (sym (ap (map lane_state) c.deref_mut.ensures.value)) (plan g c beside)).states in
