@@ -6,6 +6,7 @@ mod axis;
 mod frame;
 mod gathered;
 mod head;
+mod joined;
 mod label;
 mod lane;
 mod legend;

@@ -20,16 +20,19 @@ const BUFFER_BYTES: usize = 8192;
 /// The bytes of a source, read to their end. One more than an input may have ends the reading. It always
 /// returns, since each read takes a byte, is the end, or fails.
 fn read_to_end<S: Source>(alloc: Global, source: &mut S) -> Result<Vec<u8>, Stop>
-    ensures whole { IfOk result (λ bytes. IsReadAs (S.left source.old) bytes.items (S.left source.new)) }
+    ensures whole { IfOk result
+        (λ bytes. IsReadAs (S.left source.old) bytes.items (S.left source.new)) }
     ensures too_long { IfSome (S.left source.old) (λ _.
-        (result ≡ Err Stop.TooLong) ↔ (input_limit < count_read (S.left source.old) (S.left source.new))) }
+        (result ≡ Err Stop.TooLong)
+        ↔ (input_limit < count_read (S.left source.old) (S.left source.new))) }
     ensures most { IfSome (S.left source.old) (λ _.
         count_read (S.left source.old) (S.left source.new) ≤ input_limit + 1) }
     ensures bad { (line : _) (kind : _) → result ≢ Err (Stop.BadScenario line kind) }
     ensures guards { (line : _) (kind : _) → result ≢ Err (Stop.BadGuard line kind) }
 
     ensures faultless { result ≢ Err Stop.ReadFault → S.faults source.new ≡ S.faults source.old }
-    ensures failed { result ≡ Err Stop.ReadFault → Rose (S.faults source.old) (S.faults source.new) }
+    ensures failed { result ≡ Err Stop.ReadFault →
+        Rose (S.faults source.old) (S.faults source.new) }
     ensures counted { S.faults source.old ≤ S.faults source.new }
 {
     let mut bytes = Vec::new(alloc);
@@ -51,31 +54,36 @@ fn read_to_end<S: Source>(alloc: Global, source: &mut S) -> Result<Vec<u8>, Stop
 }
 
 /// The scenario that the input spells, whose bytes are kept beside it. The source is read to its end, or until it fails or
-/// has given one byte more than an input may have. What is kept then is what was kept before.
+/// has given one byte more than an input may have.
 pub fn read_and_keep<S: Source>(
     alloc: Global,
     source: &mut S,
     kept: &mut Vec<u8>,
 ) -> Result<Scenario, Stop>
-    ensures reads { IfOk result (λ scenario. Reads scenario (S.left source.old) (S.left source.new)) }
+    ensures reads { IfOk result
+        (λ scenario. Reads scenario (S.left source.old) (S.left source.new)) }
     ensures too_long { IfSome (S.left source.old) (λ _.
-        (result ≡ Err Stop.TooLong) ↔ (input_limit < count_read (S.left source.old) (S.left source.new))) }
+        (result ≡ Err Stop.TooLong)
+        ↔ (input_limit < count_read (S.left source.old) (S.left source.new))) }
     ensures most { IfSome (S.left source.old) (λ _.
         count_read (S.left source.old) (S.left source.new) ≤ input_limit + 1) }
     ensures bad { (line : _) (kind : _) → result ≡ Err (Stop.BadScenario line kind) →
         IsBad line kind (S.left source.old) (S.left source.new) }
-    ensures first { (bytes : _) (line : _) (kind : _) → S.left source.old ≡ Some bytes → length bytes ≤ input_limit →
+    ensures first { (bytes : _) (line : _) (kind : _) →
+        S.left source.old ≡ Some bytes → length bytes ≤ input_limit →
         IsFirstBad (lines_in bytes) line kind → result ≢ Err Stop.ReadFault →
         (result ≡ Err (Stop.BadScenario line kind)) ⊎ (result ≡ Err Stop.OutOfMemory) }
     ensures guards { (line : _) (kind : _) → result ≢ Err (Stop.BadGuard line kind) }
 
     // What is kept is what was read.
-    ensures kept { IfOk result (λ _. IsReadAs (S.left source.old) kept.new.items (S.left source.new)) }
+    ensures kept { IfOk result
+        (λ _. IsReadAs (S.left source.old) kept.new.items (S.left source.new)) }
     ensures kept_bad { (line : _) (kind : _) → result ≡ Err (Stop.BadScenario line kind) →
         IsReadAs (S.left source.old) kept.new.items (S.left source.new) }
 
     ensures faultless { result ≢ Err Stop.ReadFault → S.faults source.new ≡ S.faults source.old }
-    ensures failed { result ≡ Err Stop.ReadFault → Rose (S.faults source.old) (S.faults source.new) }
+    ensures failed { result ≡ Err Stop.ReadFault →
+        Rose (S.faults source.old) (S.faults source.new) }
     ensures counted { S.faults source.old ≤ S.faults source.new }
 {
     *kept = read_to_end(alloc, source)?;
@@ -86,20 +94,24 @@ pub fn read_and_keep<S: Source>(
 /// The scenario that the input spells. The source is read to its end, or until it fails or has given one byte
 /// more than an input may have.
 pub fn read_scenario<S: Source>(alloc: Global, source: &mut S) -> Result<Scenario, Stop>
-    ensures reads { IfOk result (λ scenario. Reads scenario (S.left source.old) (S.left source.new)) }
+    ensures reads { IfOk result
+        (λ scenario. Reads scenario (S.left source.old) (S.left source.new)) }
     ensures too_long { IfSome (S.left source.old) (λ _.
-        (result ≡ Err Stop.TooLong) ↔ (input_limit < count_read (S.left source.old) (S.left source.new))) }
+        (result ≡ Err Stop.TooLong)
+        ↔ (input_limit < count_read (S.left source.old) (S.left source.new))) }
     ensures most { IfSome (S.left source.old) (λ _.
         count_read (S.left source.old) (S.left source.new) ≤ input_limit + 1) }
     ensures bad { (line : _) (kind : _) → result ≡ Err (Stop.BadScenario line kind) →
         IsBad line kind (S.left source.old) (S.left source.new) }
-    ensures first { (bytes : _) (line : _) (kind : _) → S.left source.old ≡ Some bytes → length bytes ≤ input_limit →
+    ensures first { (bytes : _) (line : _) (kind : _) →
+        S.left source.old ≡ Some bytes → length bytes ≤ input_limit →
         IsFirstBad (lines_in bytes) line kind → result ≢ Err Stop.ReadFault →
         (result ≡ Err (Stop.BadScenario line kind)) ⊎ (result ≡ Err Stop.OutOfMemory) }
     ensures guards { (line : _) (kind : _) → result ≢ Err (Stop.BadGuard line kind) }
 
     ensures faultless { result ≢ Err Stop.ReadFault → S.faults source.new ≡ S.faults source.old }
-    ensures failed { result ≡ Err Stop.ReadFault → Rose (S.faults source.old) (S.faults source.new) }
+    ensures failed { result ≡ Err Stop.ReadFault →
+        Rose (S.faults source.old) (S.faults source.new) }
     ensures counted { S.faults source.old ≤ S.faults source.new }
 {
     let mut kept = Vec::new(alloc);

@@ -11,7 +11,8 @@ use cs_types::{Room, Step};
 pub fn play<R: Room>(room: &mut R, steps: &[Step])
     requires empty { R.history room.old ≡ [] }
     requires spare { length steps.now ≤ R.spare room.old }
-    requires events { All (λ step. IsEvent (R.opening room.old).scenario.siblings step.event) steps.now }
+    requires events { All (λ step. IsEvent (R.opening room.old).scenario.siblings step.event)
+        steps.now }
 
     ensures history { R.history room.new ≡ history_of (R.opening room.old) steps.now }
     ensures spare { R.spare room.new + length steps.now ≡ R.spare room.old }

@@ -41,7 +41,8 @@ fn teach<G: Guard>(guards: &mut Guards<G>, teach: &Teach) -> Result<(), Stop>
 pub fn taught<G: Guard>(alloc: Global, list: Vec<G>, teaches: &[Teach]) -> Result<Guards<G>, Stop>
     requires fresh { AreFresh G.pairs G.asked list.items }
 
-    ensures taught { IfOk result (λ guards. guards.guards ≡ guards_on_bench teaches.now (vec_len list)) }
+    ensures taught { IfOk result
+        (λ guards. guards.guards ≡ guards_on_bench teaches.now (vec_len list)) }
     ensures all { IfOk result (λ guards. first_bad (map G.cap list.items) teaches.now ≡ None) }
     ensures stop { IfErr result (IsTeachStop (first_bad (map G.cap list.items) teaches.now)) }
 {

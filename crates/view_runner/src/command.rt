@@ -38,12 +38,15 @@ pub fn run<R: FromScenario<Guards<G>>, S: Source, K: Sink, G: Guard>(
     requires fresh { AreFresh G.pairs G.asked guards.items }
 
     // When each status comes, what was read for it, and what was written, by the command of the words.
-    ensures ends { (command : SomeCommand) → Asks command words.now → EndsBy command (map G.cap guards.items)
+    ensures ends { (command : SomeCommand) → Asks command words.now →
+        EndsBy command (map G.cap guards.items)
         (record { bytes = S.left; faults = S.faults; before = source.old; after = source.new })
-        (record { bytes = K.written; faults = K.faults; before = sink.old; after = sink.new }) result }
+        (record { bytes = K.written; faults = K.faults; before = sink.old; after = sink.new })
+        result }
 
     // Other words are refused, and no other. Nothing is read for them and nothing written.
-    ensures bad_words { (result ≡ Status.BadWords) ↔ ((command : SomeCommand) → ¬ Asks command words.now) }
+    ensures bad_words { (result ≡ Status.BadWords)
+        ↔ ((command : SomeCommand) → ¬ Asks command words.now) }
     ensures unread { result ≡ Status.BadWords → source.new ≡ source.old }
     ensures unwritten { result ≡ Status.BadWords → sink.new ≡ sink.old }
 {

@@ -29,22 +29,27 @@ fn taken<S: Source, G: Guard>(
 ) -> Result<Scenario, Stop>
     requires fresh { AreFresh G.pairs G.asked guards.items }
 
-    ensures reads { IfOk result (λ scenario. Reads scenario (S.left source.old) (S.left source.new)) }
-    ensures taught { IfOk result (λ scenario. first_bad (map G.cap guards.items) scenario.teaches ≡ None) }
+    ensures reads { IfOk result
+        (λ scenario. Reads scenario (S.left source.old) (S.left source.new)) }
+    ensures taught { IfOk result
+        (λ scenario. first_bad (map G.cap guards.items) scenario.teaches ≡ None) }
 
     ensures too_long { IfSome (S.left source.old) (λ _.
-        (result ≡ Err Stop.TooLong) ↔ (input_limit < count_read (S.left source.old) (S.left source.new))) }
+        (result ≡ Err Stop.TooLong)
+        ↔ (input_limit < count_read (S.left source.old) (S.left source.new))) }
     ensures most { IfSome (S.left source.old) (λ _.
         count_read (S.left source.old) (S.left source.new) ≤ input_limit + 1) }
     ensures bad { (line : _) (kind : _) → result ≡ Err (Stop.BadScenario line kind) →
         IsBad line kind (S.left source.old) (S.left source.new) }
-    ensures first { (bytes : _) (line : _) (kind : _) → S.left source.old ≡ Some bytes → length bytes ≤ input_limit →
+    ensures first { (bytes : _) (line : _) (kind : _) →
+        S.left source.old ≡ Some bytes → length bytes ≤ input_limit →
         IsFirstBad (lines_in bytes) line kind → result ≢ Err Stop.ReadFault →
         (result ≡ Err (Stop.BadScenario line kind)) ⊎ (result ≡ Err Stop.OutOfMemory) }
     ensures bad_guard { (line : _) (kind : _) → result ≡ Err (Stop.BadGuard line kind) →
         IsBadGuard (map G.cap guards.items) line kind (S.left source.old) (S.left source.new) }
     ensures faultless { result ≢ Err Stop.ReadFault → S.faults source.new ≡ S.faults source.old }
-    ensures failed { result ≡ Err Stop.ReadFault → Rose (S.faults source.old) (S.faults source.new) }
+    ensures failed { result ≡ Err Stop.ReadFault →
+        Rose (S.faults source.old) (S.faults source.new) }
     ensures counted { S.faults source.old ≤ S.faults source.new }
 {
     let scenario = read_and_keep(alloc, source, kept)?;
@@ -54,7 +59,8 @@ fn taken<S: Source, G: Guard>(
 
 /// Writes what the scenario has, and says how that ended.
 fn write_counts<K: Sink>(scenario: &Scenario, sink: &mut K) -> Status
-    ensures { IsWritten (record { bytes = K.written; faults = K.faults; before = sink.old; after = sink.new })
+    ensures { IsWritten
+        (record { bytes = K.written; faults = K.faults; before = sink.old; after = sink.new })
         (counts_text scenario.now) result }
 {
     Status::of_writing(write_all(sink, counts_line(scenario).as_bytes()))
@@ -62,7 +68,8 @@ fn write_counts<K: Sink>(scenario: &Scenario, sink: &mut K) -> Status
 
 /// Writes why the text is not played, where so many guards were handed in, and says how that ended.
 fn write_explanation<K: Sink>(text: &[u8], stop: Stop, guards: usize, sink: &mut K) -> Status
-    ensures { Says (record { bytes = K.written; faults = K.faults; before = sink.old; after = sink.new })
+    ensures { Says
+        (record { bytes = K.written; faults = K.faults; before = sink.old; after = sink.new })
         (status_of stop) result }
 {
     let status = Status::from(stop);
@@ -89,7 +96,8 @@ pub(crate) fn explained<S: Source, K: Sink, G: Guard>(
 
     ensures { EndsAsExplained (map G.cap guards.items)
         (record { bytes = S.left; faults = S.faults; before = source.old; after = source.new })
-        (record { bytes = K.written; faults = K.faults; before = sink.old; after = sink.new }) result }
+        (record { bytes = K.written; faults = K.faults; before = sink.old; after = sink.new })
+        result }
 {
     let count = guards.len();
     let mut text = Vec::new(alloc);

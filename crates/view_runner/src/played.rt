@@ -28,7 +28,9 @@ pub(crate) enum SummaryForm {
 
 /// Writes the table of the summary, and says how that ended.
 fn write_table<K: Sink>(told: &RunSummary, sink: &mut K) -> Status
-    ensures { IsShown (record { bytes = K.written; faults = K.faults; before = sink.old; after = sink.new }) result }
+    ensures { IsShown
+        (record { bytes = K.written; faults = K.faults; before = sink.old; after = sink.new })
+        result }
 {
     Status::of_writing(table(told, sink))
 }
@@ -36,7 +38,8 @@ fn write_table<K: Sink>(told: &RunSummary, sink: &mut K) -> Status
 /// Writes the summary in this form, and says how that ended.
 fn write_told<K: Sink>(form: SummaryForm, told: &RunSummary, sink: &mut K) -> Status
     ensures { IsTellingOf form told.now
-        (record { bytes = K.written; faults = K.faults; before = sink.old; after = sink.new }) result }
+        (record { bytes = K.written; faults = K.faults; before = sink.old; after = sink.new })
+        result }
 {
     match form {
         SummaryForm::Lines => write_summary(told, sink),
@@ -46,7 +49,8 @@ fn write_told<K: Sink>(form: SummaryForm, told: &RunSummary, sink: &mut K) -> St
 
 /// Writes the summary, line by line, and says how that ended.
 fn write_summary<K: Sink>(told: &RunSummary, sink: &mut K) -> Status
-    ensures { IsWritten (record { bytes = K.written; faults = K.faults; before = sink.old; after = sink.new })
+    ensures { IsWritten
+        (record { bytes = K.written; faults = K.faults; before = sink.old; after = sink.new })
         (summary_text told.now) result }
 {
     Status::of_writing(summary(told, sink))
@@ -62,13 +66,16 @@ fn write_run<R: Room, K: Sink>(
     sink: &mut K,
 ) -> Status
     requires empty { R.history room ≡ [] }
-    requires spare { length steps.now + (R.opening room).scenario.siblings * (R.opening room).scenario.siblings
+    requires spare { length steps.now
+        + (R.opening room).scenario.siblings * (R.opening room).scenario.siblings
         ≤ R.spare room }
     requires few { length steps.now < 2 ^ 25 }
-    requires events { All (λ step. IsEvent (R.opening room).scenario.siblings step.event) steps.now }
+    requires events { All (λ step. IsEvent (R.opening room).scenario.siblings step.event)
+        steps.now }
 
     ensures { MayTell form (R.opening room) steps.now
-        (record { bytes = K.written; faults = K.faults; before = sink.old; after = sink.new }) result }
+        (record { bytes = K.written; faults = K.faults; before = sink.old; after = sink.new })
+        result }
 {
     match summarized_run(alloc, &mut room, steps) {
         Ok(told) => write_told(form, &told, sink),
@@ -91,7 +98,8 @@ pub(crate) fn summarized<R: FromScenario<Guards<G>>, S: Source, K: Sink, G: Guar
 
     ensures { EndsTelling form (map G.cap guards.items)
         (record { bytes = S.left; faults = S.faults; before = source.old; after = source.new })
-        (record { bytes = K.written; faults = K.faults; before = sink.old; after = sink.new }) result }
+        (record { bytes = K.written; faults = K.faults; before = sink.old; after = sink.new })
+        result }
 {
     match opened::<R, S, G>(alloc, source, guards) {
         Ok((scenario, room)) => write_run(alloc, form, room, scenario.steps.items(), sink),

@@ -31,7 +31,8 @@ pub(crate) enum Form {
 
 /// Writes the table, and says how that ended.
 fn write_table<K: Sink>(run: &RunSegments, sink: &mut K) -> Status
-    ensures { IsWritten (record { bytes = K.written; faults = K.faults; before = sink.old; after = sink.new })
+    ensures { IsWritten
+        (record { bytes = K.written; faults = K.faults; before = sink.old; after = sink.new })
         (segments_text run.now) result }
 {
     Status::of_writing(segments(run, sink))
@@ -39,14 +40,17 @@ fn write_table<K: Sink>(run: &RunSegments, sink: &mut K) -> Status
 
 /// Writes the picture, and says how that ended.
 fn write_picture<K: Sink>(run: &RunSegments, sink: &mut K) -> Status
-    ensures { IsShown (record { bytes = K.written; faults = K.faults; before = sink.old; after = sink.new }) result }
+    ensures { IsShown
+        (record { bytes = K.written; faults = K.faults; before = sink.old; after = sink.new })
+        result }
 {
     Status::of_writing(picture(run, sink))
 }
 
 /// Writes the lines of JSON, and says how that ended.
 fn write_json<K: Sink>(run: &RunSegments, sink: &mut K) -> Status
-    ensures { IsWritten (record { bytes = K.written; faults = K.faults; before = sink.old; after = sink.new })
+    ensures { IsWritten
+        (record { bytes = K.written; faults = K.faults; before = sink.old; after = sink.new })
         (segments_json_text run.now) result }
 {
     Status::of_writing(segments_json(run, sink))
@@ -55,7 +59,8 @@ fn write_json<K: Sink>(run: &RunSegments, sink: &mut K) -> Status
 /// Writes what a run shows over time, in this form, and says how that ended.
 fn write_form<K: Sink>(form: Form, run: &RunSegments, sink: &mut K) -> Status
     ensures { IsFormWritten form run.now
-        (record { bytes = K.written; faults = K.faults; before = sink.old; after = sink.new }) result }
+        (record { bytes = K.written; faults = K.faults; before = sink.old; after = sink.new })
+        result }
 {
     match form {
         Form::Table => write_table(run, sink),
@@ -74,12 +79,15 @@ fn write_shown<R: Room, K: Sink>(
     sink: &mut K,
 ) -> Status
     requires empty { R.history room ≡ [] }
-    requires spare { length steps.now + (R.opening room).scenario.siblings * (R.opening room).scenario.siblings
+    requires spare { length steps.now
+        + (R.opening room).scenario.siblings * (R.opening room).scenario.siblings
         ≤ R.spare room }
-    requires events { All (λ step. IsEvent (R.opening room).scenario.siblings step.event) steps.now }
+    requires events { All (λ step. IsEvent (R.opening room).scenario.siblings step.event)
+        steps.now }
 
     ensures { MayWriteForm form (R.opening room) steps.now
-        (record { bytes = K.written; faults = K.faults; before = sink.old; after = sink.new }) result }
+        (record { bytes = K.written; faults = K.faults; before = sink.old; after = sink.new })
+        result }
 {
     match recorded_run(alloc, &mut room, steps) {
         Ok(run) => write_form(form, &run, sink),
@@ -102,7 +110,8 @@ pub(crate) fn shown<R: FromScenario<Guards<G>>, S: Source, K: Sink, G: Guard>(
 
     ensures { EndsInForm form (map G.cap guards.items)
         (record { bytes = S.left; faults = S.faults; before = source.old; after = source.new })
-        (record { bytes = K.written; faults = K.faults; before = sink.old; after = sink.new }) result }
+        (record { bytes = K.written; faults = K.faults; before = sink.old; after = sink.new })
+        result }
 {
     match opened::<R, S, G>(alloc, source, guards) {
         Ok((scenario, room)) => write_shown(alloc, form, room, scenario.steps.items(), sink),
