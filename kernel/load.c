@@ -1,5 +1,5 @@
 /*
- * The load of a traced kernel: rounds of SCHED_FIFO tasks on the siblings of one core.
+ * The load of a traced kernel: rounds of tasks on the siblings of one core, nearly all of them SCHED_FIFO.
  *
  * It is the guest's first program, /init. The kernel's command line ends with what it is to do:
  *
@@ -9,13 +9,18 @@
  * pins each to one CPU, and lets them set their first cookies. Then it traces them until the round's end, and writes:
  *
  *     ROUND K seed N cpus N tasks N ...     what was drawn
- *     LOADTASK PID CPU PRIORITY             each task
+ *     LOADTASK PID CPU PRIORITY FROM TO     each task; a fair one has priority 0
  *     TRACE
  *     ...                                   the kernel's trace
  *     TRACEEND
  *
+ * FROM and TO are what the kernel had charged the task for forced idle as the trace began and after it, in ns; TO is -1
+ * if the task has ended.
+ *
  * The SHAPE `mixed` draws among all priorities and groups. `equal` draws many equal priorities, two cookies, and many
- * calls of prctl. No task yields. None changes its priority or its CPU, and none ends while it is traced.
+ * calls of prctl. `exits` is `mixed`, and some half of the tasks end while they are traced. In `fair` some half ends too,
+ * and one task is a fair one. It shares its cookie with the highest FIFO task, of another CPU, so that it runs beside
+ * siblings that are forced idle. No task yields. None changes its priority or its CPU.
  */
 #define _GNU_SOURCE
 #include <errno.h>
@@ -143,6 +148,33 @@ static void sleep_until(uint64_t moment)
 		;
 }
 
+/* What the kernel has charged a task for forced idle, in ns, -1 if there is no such task. Its text is MILLISECONDS.REST,
+ * the rest of six digits. */
+static long long forced_idle_of(int pid)
+{
+	static char text[16384];
+	char path[64];
+	int length = 0, got;
+
+	snprintf(path, sizeof path, "/proc/%d/sched", pid);
+	int file = open(path, O_RDONLY);
+
+	if (file < 0)
+		return -1;
+	while ((got = read(file, text + length, sizeof text - 1 - length)) > 0)
+		length += got;
+	close(file);
+	text[length] = 0;
+	char *at = strstr(text, "core_forceidle_sum");
+
+	at = at ? strchr(at, ':') : 0;
+	if (!at)
+		return -1;
+	long long milliseconds = strtoll(at + 1, &at, 10);
+
+	return milliseconds * (long long)MILLISECOND + (*at == '.' ? strtoll(at + 1, 0, 10) : 0);
+}
+
 static int pin(int pid, int cpu)
 {
 	cpu_set_t cpus;
@@ -152,19 +184,23 @@ static int pin(int pid, int cpu)
 	return sched_setaffinity(pid, sizeof cpus, &cpus);
 }
 
-static void make_fifo(int priority)
+/* A FIFO task has a priority from 1, and a fair task 0. */
+static void set_priority(int priority)
 {
 	struct sched_param parameters = { .sched_priority = priority };
 
-	if (sched_setscheduler(0, SCHED_FIFO, &parameters))
-		say("not FIFO: %d\n", errno);
+	if (sched_setscheduler(0, priority ? SCHED_FIFO : SCHED_OTHER, &parameters))
+		say("no priority %d: %d\n", priority, errno);
 }
 
 /* ---- what init and the tasks share */
 
 struct task {
 	uint32_t bell;                 /* the futex on which the task waits; its value stays 0 */
-	int pid, cpu, priority, group; /* group 0: no cookie at first */
+	int pid, cpu, priority, group; /* priority 0: a fair task; group 0: no cookie at first */
+	int spin;                      /* at most so many microseconds it spins */
+	int life;                      /* so many microseconds after the start it ends; 0: never */
+	long long forced_idle;         /* what it had been charged as the trace began, in ns */
 };
 
 static struct room {
@@ -172,8 +208,8 @@ static struct room {
 	uint64_t start, end;
 	uint64_t phase, active; /* of each phase the tasks are active for a part, and then sleep */
 	int cpus, count;
-	/* At most so many microseconds a task spins or sleeps; of 1000 doings so many are calls of prctl, of 10 calls so
-	 * many CREATE, and of 1000 doings so many wakes. */
+	/* At most so many microseconds most tasks spin, and all sleep; of 1000 doings so many are calls of prctl, of 10
+	 * calls so many CREATE, and of 1000 doings so many wakes. */
 	int spin, nap, change, makes, wakes;
 	struct task tasks[MOST_TASKS];
 } *room;
@@ -258,7 +294,7 @@ static void do_something(int me)
 	else if (what < room->change + room->wakes)
 		wake_some();
 	else if (what < 600)
-		spin_until(now() + (1 + draw(room->spin)) * MICROSECOND);
+		spin_until(now() + (1 + draw(room->tasks[me].spin)) * MICROSECOND);
 	else if (what < 800)
 		sleep_until(now() + (20 + draw(room->nap)) * MICROSECOND);
 	else
@@ -272,7 +308,7 @@ static void run_task(int me, uint64_t seed)
 	begin_draws(seed);
 	pin(0, task->cpu);
 	task->pid = getpid();
-	make_fifo(task->priority);
+	set_priority(task->priority);
 	wait_for_stage(1);
 	set_first_cookie(me);
 	wait_for_stage(2);
@@ -280,6 +316,8 @@ static void run_task(int me, uint64_t seed)
 	for (uint64_t time = now(); time < room->end; time = now()) {
 		uint64_t in_phase = (time - room->start) % room->phase;
 
+		if (task->life && time >= room->start + task->life * MICROSECOND)
+			_exit(0);
 		if (time > room->start && in_phase > room->active) /* all siblings come to idle */
 			sleep_until(time - in_phase + room->phase + draw(2000) * MICROSECOND);
 		else
@@ -291,12 +329,14 @@ static void run_task(int me, uint64_t seed)
 
 /* ---- a round */
 
+enum load { MIXED, EQUAL, EXITS, FAIR };
+
 /* How a round's numbers of tasks, priorities and groups are drawn. */
 struct shape {
 	int many, priorities, cookies;
 };
 
-static struct shape draw_shape(int is_equal)
+static struct shape draw_shape(enum load load)
 {
 	static const int spins[] = { 20, 60, 150, 400 }, naps[] = { 100, 300, 1000 };
 	static const int changes[] = { 0, 10, 40, 120, 250 }, wakes[] = { 40, 120, 250 };
@@ -310,7 +350,7 @@ static struct shape draw_shape(int is_equal)
 	room->change = changes[draw(5)];
 	room->wakes = wakes[draw(3)];
 	room->makes = draw(2) ? 1 : 4;
-	if (is_equal) {
+	if (load == EQUAL) {
 		shape.many = 1 + draw(2);
 		shape.priorities = draw(2) ? 2 : 4;
 		shape.cookies = 5;
@@ -373,11 +413,41 @@ static void draw_tasks(const struct shape *shape)
 			room->tasks[me].cpu = cpu;
 			room->tasks[me].priority = draw_priority(shape->priorities, rank);
 			room->tasks[me].group = draw_group(shape->cookies, me, cpu, rank);
+			room->tasks[me].spin = room->spin;
 		}
+}
+
+/* One task is a fair one, and shares its cookie with the highest FIFO task, of another CPU. Most others have one of two
+ * other cookies. The two that share one spin for long, so that the fair task may be at work for a slice beside forced
+ * idle. */
+static void draw_fair_task(void)
+{
+	struct task *highest = &room->tasks[draw(room->count)], *fair;
+
+	do
+		fair = &room->tasks[draw(room->count)];
+	while (fair->cpu == highest->cpu);
+	for (int one = 0; one < room->count; one++) {
+		room->tasks[one].priority = 1 + draw(50);
+		room->tasks[one].group = draw(6) ? 2 + draw(2) : 0;
+	}
+	highest->priority = 80;
+	fair->priority = 0;
+	highest->group = fair->group = 1;
+	highest->spin = fair->spin = 6000;
+	room->change = 10 * draw(2);
+}
+
+static void draw_lives(int milliseconds)
+{
+	for (int one = 0; one < room->count; one++)
+		room->tasks[one].life = draw(2) ? 1 + draw(1000 * milliseconds) : 0;
 }
 
 static void trace_until_end(int milliseconds)
 {
+	for (int one = 0; one < room->count; one++)
+		room->tasks[one].forced_idle = forced_idle_of(room->tasks[one].pid);
 	set(TRACING "trace", " ");
 	set(TRACING "tracing_on", "1");
 	room->start = now() + (room->cpus > 2 ? 200 : 40) * MILLISECOND;
@@ -392,14 +462,15 @@ static void show_round(int number, uint64_t seed, const struct shape *shape)
 	say("ROUND %d seed %llu cpus %d tasks %d many %d priorities %d cookies %d spin %d nap %d change %d makes %d wakes %d\n",
 	    number, (unsigned long long)seed, room->cpus, room->count, shape->many, shape->priorities, shape->cookies,
 	    room->spin, room->nap, room->change, room->makes, room->wakes);
-	for (int one = 0; one < room->count; one++)
-		say("LOADTASK %d %d %d\n", room->tasks[one].pid, room->tasks[one].cpu, room->tasks[one].priority);
+	for (struct task *task = room->tasks; task < room->tasks + room->count; task++)
+		say("LOADTASK %d %d %d %lld %lld\n", task->pid, task->cpu, task->priority, task->forced_idle,
+		    forced_idle_of(task->pid));
 	say("TRACE\n");
 	show_whole(TRACING "trace");
 	say("TRACEEND\n");
 }
 
-static void play_round(int number, uint64_t seed, int cpus, int milliseconds, int is_equal)
+static void play_round(int number, uint64_t seed, int cpus, int milliseconds, enum load load)
 {
 	begin_draws(seed);
 	memset(room, 0, sizeof *room);
@@ -407,9 +478,13 @@ static void play_round(int number, uint64_t seed, int cpus, int milliseconds, in
 	/* Many CPUs are slow to emulate. */
 	room->active = (cpus > 2 ? 200 : 45) * MILLISECOND;
 	room->phase = (cpus > 2 ? 300 : 60) * MILLISECOND;
-	struct shape shape = draw_shape(is_equal);
+	struct shape shape = draw_shape(load);
 
 	draw_tasks(&shape);
+	if (load == FAIR)
+		draw_fair_task();
+	if (load == FAIR || load == EXITS)
+		draw_lives(milliseconds);
 	for (int me = 0; me < room->count; me++)
 		if (!fork())
 			run_task(me, seed * 7919 + me * 104729 + 1);
@@ -440,6 +515,8 @@ static void set_up_kernel(int cpus)
 	set("/proc/sys/kernel/printk", "1");
 	set("/proc/sys/kernel/sched_schedstats", "1");
 	set("/proc/sys/kernel/sched_rt_runtime_us", "-1");
+	/* A lone fair task beside forced idle is asked to leave after half of it, which is 6 ms, on any number of CPUs. */
+	set("/sys/kernel/debug/sched/latency_ns", "12000000");
 	/* A CPU that goes idle pulls no fair task, so no schedule drops the core's lock. */
 	set("/sys/kernel/debug/sched/verbose", "Y");
 	for (int cpu = 0; cpu < cpus; cpu++) {
@@ -465,13 +542,25 @@ static int keep_cookie(void)
 		pause();
 }
 
+static enum load load_called(const char *name)
+{
+	static const char *names[] = { "mixed", "equal", "exits", "fair" };
+	enum load load = MIXED;
+
+	for (int one = MIXED; one <= FAIR; one++)
+		if (!strcmp(name, names[one]))
+			load = one;
+	return load;
+}
+
 int main(int argc, char **argv)
 {
 	if (argc < 5)
 		return 1;
 	char **words = argv + argc - 4;
 	uint64_t seed = strtoull(words[0], 0, 10);
-	int rounds = atoi(words[1]), milliseconds = atoi(words[2]), is_equal = !strcmp(words[3], "equal");
+	int rounds = atoi(words[1]), milliseconds = atoi(words[2]);
+	enum load load = load_called(words[3]);
 	cpu_set_t all;
 
 	mount_all();
@@ -486,7 +575,9 @@ int main(int argc, char **argv)
 	show("/sys/devices/system/cpu/cpu0/topology/thread_siblings_list");
 	room = mmap(0, sizeof *room, PROT_READ | PROT_WRITE, MAP_SHARED | MAP_ANONYMOUS, -1, 0);
 	pin(0, 0);
-	make_fifo(99);
+	set_priority(99);
+	/* The end of a task does not wake this one. */
+	signal(SIGCHLD, SIG_IGN);
 	int keeper = keep_cookie();
 
 	usleep(50000);
@@ -494,7 +585,7 @@ int main(int argc, char **argv)
 	for (int pid = 2; pid < keeper; pid++)
 		pin(pid, pid % cpus);
 	for (int number = 0; number < rounds; number++)
-		play_round(number, seed * 1000 + number, cpus, milliseconds, is_equal);
+		play_round(number, seed * 1000 + number, cpus, milliseconds, load);
 	say("\n=== END load\n");
 	reboot(RB_POWER_OFF);
 	for (;;)

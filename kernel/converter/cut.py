@@ -7,7 +7,7 @@ on, where it is long enough, or with its round. Then the next one begins behind 
 from collections import Counter
 from dataclasses import dataclass
 
-from converter.events import Break, Enqueue, Note, Reading, Schedule, Setting
+from converter.events import Break, Enqueue, Note, Reading, Schedule, Setting, Tick
 from converter.need import End, need
 from converter.rounds import Round
 from converter.scenario import Scenario, may_begin
@@ -41,17 +41,23 @@ class Cutter:
         if not one.is_whole:
             self.counts["rounds dropped: lines lost"] += 1
             return
+        if one.sums_that_differ():
+            self.counts["rounds dropped: the kernel's sums have other charges than the trace"] += 1
+            return
         self.round = one
         events = list(Reading().events(one.lines))
-        cookies = first_cookies(event for _, event in events)
+        living, cookies = dict(one.tasks), first_cookies(event for _, event in events)
         for at, event in events:
             self.go_on(event, at)
             if isinstance(event, Setting):
                 cookies[event.pid] = event.new
+            elif isinstance(event, Schedule) and event.is_exit:
+                living.pop(event.previous, None)
+                cookies.pop(event.previous, None)
             if self.scenario:
                 self.end_where_enough()
             if not self.scenario and isinstance(event, Schedule) and may_begin(event):
-                self.scenario = Scenario(one.siblings, one.tasks, cookies, at)
+                self.scenario = Scenario(one.siblings, dict(living), cookies, event.clock, at)
         if self.scenario:
             self.end("end of the round")
 
@@ -78,28 +84,32 @@ class Cutter:
                 self.scenario.wake(event)
             case Setting():
                 self.scenario.set_cookie(event)
+            case Tick():
+                self.scenario.tick(event)
             case Schedule():
                 every_second = self.turns == "even" and len(self.kept) % 2 == 1
                 self.scenario.schedule(event, self.turns == "all" or every_second)
 
     def end_where_enough(self):
         steps, difference = len(self.scenario.steps), self.scenario.difference
-        if difference and steps >= difference[0] + BEHIND_DIFFERENCE:
+        if difference and steps >= difference[0].steps + BEHIND_DIFFERENCE:
             self.end("")
         elif steps >= self.most:
             self.end("long enough")
 
     def end(self, why):
-        """Ends the scenario. Of one that met a known difference the steps before that stay, and where it is short,
-        a copy with all of them is kept apart."""
+        """Ends the scenario at the last moment at which it may. Of one that met a known difference the steps before that
+        stay, and where it is short, a copy with all of them is kept apart."""
         scenario, self.scenario = self.scenario, None
+        scenario.cut_back(scenario.last_mark)
         if scenario.difference:
-            why = f"known difference: {scenario.difference[2]}"
+            mark, what = scenario.difference
+            why = f"known difference: {what}"
             if len(scenario.steps) <= MOST_APART:
-                self.apart.append((scenario.text(), list(scenario.entries)))
+                self.apart.append((scenario.text(), scenario.expected()))
             else:
                 self.counts["known difference, in a scenario too long to be stored"] += 1
-            scenario.end_before_difference()
+            scenario.cut_back(mark)
         self.ends[why] += 1
         if len(scenario.steps) - scenario.begun < self.least:
             self.counts["scenarios dropped: shorter than the least length"] += 1

@@ -1,4 +1,4 @@
-"""Makes events of a round's lines: enqueues, settings of a cookie, and whole schedules.
+"""Makes events of a round's lines: enqueues, settings of a cookie, ticks, and whole schedules.
 
 All lines of a core are written under its lock with one global counter, so their order is certain. Two things are looked
 at for that: no two lines have one counter, and each line's task number follows from the one of the line before. What
@@ -9,8 +9,9 @@ from dataclasses import dataclass, field
 
 # Lines that are written outside the lock. Their place in the order does not matter.
 OUTSIDE = ("prctl", "try")
-# The priorities in a trace are the kernel's: that of a stop task, those from the first fair one on, and that of idle.
-STOP, FAIR, IDLE = -2, 100, 1000
+# The priorities in a trace are the kernel's: that of a stop task, those from the first fair one on, with the one of the
+# nice value 0, and that of idle.
+STOP, FAIR, NICE_0, IDLE = -2, 100, 120, 1000
 NO_COOKIE = "0"
 
 
@@ -20,6 +21,41 @@ class Enqueue:
     pid: int
     cookie: str
     priority: int
+    clock: int
+
+
+@dataclass
+class Share:
+    """What the kernel charged one task for a sibling, in ns, and whether the task waited for that."""
+    sibling: int
+    pid: int
+    cookie: str
+    time: int
+    is_waiting: bool
+
+
+@dataclass
+class Charge:
+    """A charge for forced idle: the time since the last one or the interval's start, in ns, the core's clock, how many
+    siblings were forced idle, for how many a task was chosen, and the shares."""
+    time: int
+    clock: int
+    count: int
+    occupation: int
+    shares: list = field(default_factory=list)
+
+
+@dataclass
+class Tick:
+    """A tick that found forced idle: what the sibling ran, for how long by the kernel's measure, in ns, whether its flag
+    was set before and is set now, the core's clock, and what was charged."""
+    sibling: int
+    pid: int
+    was_pending: bool
+    is_pending: bool = False
+    clock: int = 0
+    ran: int = 0
+    charge: Charge = None
 
 
 @dataclass
@@ -37,7 +73,8 @@ class Setting:
 
 @dataclass
 class Schedule:
-    """One schedule of the kernel. `before` and `after` have the core, and for each sibling its line."""
+    """One schedule of the kernel. `before` and `after` have the core, and for each sibling its line. The task of a block
+    may have ended, and then it is an exit."""
     sibling: int
     previous: int
     before: dict
@@ -48,9 +85,15 @@ class Schedule:
     choices: dict = field(default_factory=dict)
     kind: str = None
     next: int = None
+    charge: Charge = None
     is_block: bool = False
+    is_exit: bool = False
     is_dropped: bool = False
     woken: set = field(default_factory=set)
+
+    @property
+    def clock(self):
+        return int(self.after["clock"])
 
 
 @dataclass
@@ -96,6 +139,9 @@ class Reading:
         self.calls = {}          # by caller: its last call of prctl
         self.setting = None      # the setting of a cookie that has begun
         self.dequeued = None     # sibling and pid of a dequeue, which its schedule has to follow
+        self.has_ended = False   # whether that task has ended
+        self.tick = None         # the tick that has begun
+        self.charge = None       # the charge whose schedule or tick has not ended
         self.counter = None      # the counter of the line before
         self.number = None       # the task number after the line before, where that is known
 
@@ -125,6 +171,10 @@ class Reading:
                 yield from self.add_sibling(line)
             case "kind" | "first" | "choice" | "END":
                 self.go_on(line)
+            case "tick" | "ticked":
+                yield from self.add_tick(line)
+            case "charge" | "share":
+                yield from self.add_charge(line)
             case "steal":
                 yield Break("a steal")
 
@@ -156,6 +206,7 @@ class Reading:
             return
         if line.kind == "D":
             self.dequeued = (line.number(1), line.number(2))
+            self.has_ended = line.named(5)["dead"] == "1"
             return
         undecided = [schedule for schedule in self.open.values() if schedule.kind is None]
         for schedule in undecided:
@@ -164,7 +215,8 @@ class Reading:
             yield Break("an enqueue inside a pick")
         if undecided:
             yield Note("a wake inside a schedule, put before it")
-        yield Enqueue(line.number(1), line.number(2), line.words[3], int(line.named(5)["prio"]))
+        said = line.named(5)
+        yield Enqueue(line.number(1), line.number(2), line.words[3], int(said["prio"]), int(said["clock"]))
 
     def begin(self, line):
         for schedule in self.open.values():
@@ -172,7 +224,9 @@ class Reading:
                 schedule.is_dropped = True
                 self.number = None
                 yield Break("lock dropped inside a schedule")
-        self.current = Schedule(line.number(1), line.number(2), line.named(3), is_block=self.dequeued is not None)
+        is_block = self.dequeued is not None
+        self.current = Schedule(line.number(1), line.number(2), line.named(3), is_block=is_block,
+                                is_exit=is_block and self.has_ended)
         self.open[self.current.sibling] = self.current
         self.siblings = self.current.before_siblings
         self.dequeued = None
@@ -191,7 +245,7 @@ class Reading:
         """A further line of the current schedule. Those of one whose lock was dropped are passed over."""
         schedule = self.current
         if schedule is None or schedule.is_dropped:
-            self.current = self.number = None
+            self.current = self.number = self.charge = None
             if line.kind == "END" and line.number(1) in self.open and self.open[line.number(1)].is_dropped:
                 del self.open[line.number(1)]
         elif line.kind == "kind":
@@ -204,4 +258,31 @@ class Reading:
             schedule.choices[line.number(1)] = (line.number(2), said["idle"] == "1")
         else:
             schedule.next, schedule.after = line.number(2), line.named(3)
+            schedule.charge, self.charge = self.charge, None
             self.siblings = schedule.after_siblings
+
+    def add_tick(self, line):
+        """The beginning of a tick, or its end."""
+        if line.kind == "tick":
+            self.tick = Tick(line.number(1), line.number(2), line.named(3)["pending"] == "1")
+            return
+        tick, self.tick = self.tick, None
+        if tick is None or (tick.sibling, tick.pid) != (line.number(1), line.number(2)):
+            yield Break("a tick that did not begin")
+            return
+        said = line.named(3)
+        tick.is_pending, tick.clock, tick.ran = said["pending"] == "1", int(said["clock"]), int(said["ran"])
+        tick.charge, self.charge = self.charge, None
+        yield tick
+
+    def add_charge(self, line):
+        """A charge, or one of its shares."""
+        if line.kind == "charge":
+            if self.charge or not (self.current or self.tick):
+                yield Break("a charge of no schedule and no tick")
+            said = line.named(1)
+            self.charge = Charge(int(said["delta"]), int(said["now"]), int(said["count"]), int(said["occupation"]))
+        elif self.charge:
+            said = line.named(3)
+            self.charge.shares.append(Share(line.number(1), line.number(2), said["cookie"], int(said["time"]),
+                                            said["waits"] == "1"))

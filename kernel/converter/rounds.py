@@ -1,10 +1,13 @@
 """Reads what the load writes on the console: its rounds, and in each the lines of the kernel's trace."""
 
 import re
+from collections import Counter
 from dataclasses import dataclass, field
 
 LINE = re.compile(r"\s*.+-(\d+)\s+\[\d+\]\s+\S+\s+(\d+): \w+: (.*)")
 KEPT = "entries-in-buffer/entries-written:"
+# The sum of a task that ended.
+ENDED = -1
 
 
 @dataclass
@@ -28,10 +31,12 @@ class Line:
 
 @dataclass
 class Round:
-    """A round of the load: its title, its tasks with sibling and priority, and the lines of its trace; whether this says
-    how many lines there were, and whether one is lost or cut."""
+    """A round of the load: its title, its tasks with sibling and priority, 0 for a fair one; what the kernel had charged
+    each as the trace began and after it, in ns; the lines of its trace; whether this says how many lines there were, and
+    whether one is lost or cut."""
     title: str
     tasks: dict = field(default_factory=dict)
+    sums: dict = field(default_factory=dict)
     lines: list = field(default_factory=list)
     is_counted: bool = False
     has_lost: bool = False
@@ -40,6 +45,18 @@ class Round:
     def is_whole(self):
         """Whether it is known that the trace has all lines."""
         return self.is_counted and not self.has_lost
+
+    def sums_that_differ(self):
+        """The tasks to which the kernel's sums added something else than the trace says. A task that ended has no sum
+        any more, and one that was queued as the trace ended may have been charged since."""
+        charged, is_queued = Counter(), {}
+        for line in self.lines:
+            if line.kind == "share":
+                charged[line.number(2)] += int(line.named(3)["time"])
+            elif line.kind in ("E", "D"):
+                is_queued[line.number(2)] = line.kind == "E"
+        return [pid for pid, (before, after) in self.sums.items()
+                if after != ENDED and not is_queued.get(pid) and after - before != charged[pid]]
 
     @property
     def siblings(self):
@@ -70,8 +87,9 @@ def rounds(path):
             if text.startswith("ROUND "):
                 current = Round(text)
             elif text.startswith("LOADTASK "):
-                pid, sibling, priority = map(int, text.split()[1:])
+                pid, sibling, priority, before, after = map(int, text.split()[1:])
                 current.tasks[pid] = (sibling, priority)
+                current.sums[pid] = (before, after)
             elif text in ("TRACE", "TRACEEND"):
                 is_tracing = text == "TRACE"
                 if not is_tracing:
