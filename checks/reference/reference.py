@@ -439,9 +439,12 @@ class Room:
         charged = []
         for x in self.online():
             who = x.run if x.waiting is NONE else x.waiting
-            if who is not None and who.cookie != 0:
+            if who is not None:
                 who.total += share
                 charged.append(who.pid)
+                self.stats['charge: task ' + ('with a cookie' if who.cookie else 'without a cookie')] += 1
+            elif x.run is not None:
+                self.stats['charge: idle waits for a running task'] += 1
         self.intervals.append((self.start, self.clock, self.count, self.occupation, tuple(charged)))
         self.start = self.clock
 
@@ -538,8 +541,9 @@ class Room:
         self.count = len(forced)
         self.occupation = sum(1 for c in choices.values() if c is not None)
         assert self.count == 0 or self.occupation != 0, 'the occupation is not 0 while the count is not'
-        if self.count != 0 and k != 0:
+        if self.count != 0:
             self.start = self.clock
+            self.stats['interval opens under ' + ('a cookie' if k else 'cookie 0')] += 1
         self.pick_number = self.task_number
         for x in order:
             self.remember(x, choices[x.i], forced_before and self.count != 0)
@@ -966,7 +970,7 @@ class Room:
             assert t.v < BOUND
             assert self.sib[t.home].online or not t.queued
         assert self.count == 0 or self.occupation != 0, 'the occupation is not 0 while the count is not'
-        assert self.start is None or (self.count != 0 and self.core != 0)
+        assert (self.start is not None) == (self.count != 0), 'an interval is open exactly while a sibling is forced idle'
         assert len(self.tasks) <= self.s.limit
         assert len({t.cookie for t in self.tasks.values() if t.cookie}) <= self.s.cookies
 
