@@ -2,11 +2,13 @@
 //! all is more than the prover reads at once.
 
 use crate::moves::{
-    HOTPLUG, LAST_TASK_STOLEN, LEAVES_WITH_QUEUE, REFUSED_MOVES, SAME_POLICY, STEAL,
+    CHARGED_AT_A_LEAVE, HOTPLUG, LAST_TASK_STOLEN, LEAVES_WITH_QUEUE, REFUSED_MOVES, SAME_POLICY,
+    STEAL,
 };
 use crate::scripts::{
     CHARGED_AT_EXIT, CORE_COOKIE_0, FORCED_IDLE, FORCED_IDLE_TICK, LOWER_MATCH, NOTHING,
-    STALE_PICK, Script, THREE_SHARES, TIE_OF_LEADS, TWO_SHARES,
+    STALE_PICK, Script, THREE_SHARES, TIE_OF_LEADS, TWO_SHARES, WAITING_IDLE_CHARGES_NOBODY,
+    WAITING_TASK_CHARGED,
 };
 
 /// The earlier deadline goes first, a deadline task forks none, and a sibling that runs idle has no task
@@ -202,7 +204,7 @@ const LAST_REFERENCE: Script = script!(
 );
 
 /// The worked examples of selections and of accounts.
-pub const OF_SELECTIONS: [Script; 10] = [
+pub const OF_SELECTIONS: [Script; 12] = [
     NOTHING,
     FORCED_IDLE,
     LOWER_MATCH,
@@ -212,11 +214,13 @@ pub const OF_SELECTIONS: [Script; 10] = [
     FORCED_IDLE_TICK,
     TWO_SHARES,
     THREE_SHARES,
+    WAITING_TASK_CHARGED,
+    WAITING_IDLE_CHARGES_NOBODY,
     CHARGED_AT_EXIT,
 ];
 
 /// The worked examples of classes, of births and ends, of refusals and of moves.
-pub const OF_TASKS: [Script; 12] = [
+pub const OF_TASKS: [Script; 13] = [
     DEADLINES,
     ROUND_ROBIN,
     GROWTH,
@@ -227,6 +231,7 @@ pub const OF_TASKS: [Script; 12] = [
     LAST_TASK_STOLEN,
     HOTPLUG,
     LEAVES_WITH_QUEUE,
+    CHARGED_AT_A_LEAVE,
     REFUSED_MOVES,
     SAME_POLICY,
 ];

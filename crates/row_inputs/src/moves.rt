@@ -167,6 +167,35 @@ pub const LEAVES_WITH_QUEUE: Script = script!(
     ],
 );
 
+/// Sibling 1 leaves with the task that it runs, which has no cookie, while sibling 0 is forced idle. The task
+/// is charged before it moves.
+pub const CHARGED_AT_A_LEAVE: Script = script!(
+    "CHARGED_AT_A_LEAVE",
+    2,
+    "8 8 65536",
+    [(1, "fifo:50", 1), (2, "fifo:40", 0)],
+    [
+        ("c0 prctl 2 1 0 0 0", "0"),
+        ("c0 wake 1", "Woken 1"),
+        ("s1 turn", "Plain 1 core 0 forced 0"),
+        ("c0 wake 2", "Woken 0"),
+        ("s0 turn", "Selected idle core 0 forced 1"),
+        ("c0 advance 10", "Now 10"),
+        ("c0 offline 1", "Done"),
+        ("s0 turn", "Plain 1 core 0 forced 0"),
+    ],
+    [
+        "clock 10",
+        "numbers 7 4",
+        "core 0 forced 0 occupation 0",
+        "intervals 1",
+        "cpu 0 online runs 1 number 4",
+        "cpu 1 offline runs idle number 0",
+        "task 1 cpu 0 queued cookie 0 forced 10 vtime 0",
+        "task 2 cpu 0 queued cookie 1 forced 0 vtime 0",
+    ],
+);
+
 /// What is refused of siblings that are offline or online already, and a policy for no task.
 pub const REFUSED_MOVES: Script = script!(
     "REFUSED_MOVES",

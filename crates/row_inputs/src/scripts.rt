@@ -90,8 +90,8 @@ pub const LOWER_MATCH: Script = script!(
     ],
 );
 
-/// For core cookie 0 a sibling whose first task has a cookie idles, though a lower one has none. No
-/// interval opens.
+/// For core cookie 0 a sibling whose first task has a cookie idles, though a lower one has none. The task
+/// that runs is charged, although it has no cookie.
 pub const CORE_COOKIE_0: Script = script!(
     "CORE_COOKIE_0",
     2,
@@ -112,10 +112,10 @@ pub const CORE_COOKIE_0: Script = script!(
         "clock 10",
         "numbers 5 5",
         "core 0 forced 1 occupation 1",
-        "intervals 0",
+        "intervals 1",
         "cpu 0 online runs 1 number 0",
         "cpu 1 online runs idle number 5",
-        "task 1 cpu 0 queued cookie 0 forced 0 vtime 0",
+        "task 1 cpu 0 queued cookie 0 forced 10 vtime 0",
         "task 2 cpu 1 queued cookie 1 forced 0 vtime 0",
         "task 3 cpu 1 queued cookie 0 forced 0 vtime 0",
     ],
@@ -300,6 +300,64 @@ pub const THREE_SHARES: Script = script!(
         "task 2 cpu 1 queued cookie 1 forced 3 vtime 0",
         "task 3 cpu 2 queued cookie 1 forced 3 vtime 0",
         "task 4 cpu 3 queued cookie 0 forced 0 vtime 0",
+    ],
+);
+
+/// Task 2 has no cookie and waits for sibling 0, which still runs task 1. The one that waits is charged.
+pub const WAITING_TASK_CHARGED: Script = script!(
+    "WAITING_TASK_CHARGED",
+    2,
+    "8 8 65536",
+    [(1, "fifo:10", 0), (2, "fifo:20", 0), (3, "fifo:15", 1)],
+    [
+        ("c0 prctl 3 1 0 0 0", "0"),
+        ("c0 wake 1", "Woken 0"),
+        ("s0 turn", "Plain 1 core 0 forced 0"),
+        ("c0 wake 2", "Woken 0"),
+        ("c0 wake 3", "Woken 1"),
+        ("s1 turn", "Selected idle core 0 forced 1"),
+        ("c0 advance 10", "Now 10"),
+        ("s1 tick", "Ticked no"),
+    ],
+    end[(0, "Adopted 2 core 0 forced 1")],
+    [
+        "clock 10",
+        "numbers 5 5",
+        "core 0 forced 1 occupation 1",
+        "intervals 1",
+        "cpu 0 online runs 2 number 5",
+        "cpu 1 online runs idle number 5",
+        "task 1 cpu 0 queued cookie 0 forced 0 vtime 0",
+        "task 2 cpu 0 queued cookie 0 forced 10 vtime 0",
+        "task 3 cpu 1 queued cookie 1 forced 0 vtime 0",
+    ],
+);
+
+/// Idle waits for sibling 1, which still runs task 2. So nobody is charged for that sibling.
+pub const WAITING_IDLE_CHARGES_NOBODY: Script = script!(
+    "WAITING_IDLE_CHARGES_NOBODY",
+    2,
+    "8 8 65536",
+    [(1, "fifo:20", 0), (2, "fifo:10", 1)],
+    [
+        ("c0 prctl 1 1 0 0 0", "0"),
+        ("c0 wake 2", "Woken 1"),
+        ("s1 turn", "Plain 2 core 0 forced 0"),
+        ("c0 wake 1", "Woken 0"),
+        ("s0 turn", "Selected 1 core 1 forced 1"),
+        ("c0 advance 10", "Now 10"),
+        ("s0 tick", "Ticked no"),
+    ],
+    end[(1, "Adopted idle core 1 forced 1")],
+    [
+        "clock 10",
+        "numbers 4 4",
+        "core 1 forced 1 occupation 1",
+        "intervals 1",
+        "cpu 0 online runs 1 number 4",
+        "cpu 1 online runs idle number 4",
+        "task 1 cpu 0 queued cookie 1 forced 10 vtime 0",
+        "task 2 cpu 1 queued cookie 0 forced 0 vtime 0",
     ],
 );
 

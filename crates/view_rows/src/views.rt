@@ -54,7 +54,8 @@ end
 ";
 
 /// Task 1 has no cookie and comes to sibling 0. It is higher than task 2, which has one. So sibling 1 idles for 2 us
-/// under cookie 0. Then task 1 sleeps, and sibling 1 is to run task 2, and has not taken it 300 ns later.
+/// under cookie 0, and task 1 is charged for that. Then it sleeps, and sibling 1 is to run task 2, and has not taken it 300
+/// ns later.
 const UNDER_NONE: &str = "coresched 1
 siblings 2
 limits 8 8 65536
@@ -246,9 +247,9 @@ total 51000
 forced 0 cookie 0 none 0
 cpu 1 ran 0 idle 0 offline 0 pending 300
 forced 1 cookie 300 none 2000
-task 1 ran 2000 waited 0 slept 300 charged 0 cookie 0
+task 1 ran 2000 waited 0 slept 300 charged 2000 cookie 0
 task 2 ran 0 waited 2300 slept 0 charged 0 cookie 1
-cookie 0 ran 2000 waited 0 slept 300 charged 0
+cookie 0 ran 2000 waited 0 slept 300 charged 2000
 cookie 1 ran 0 waited 2300 slept 0 charged 0
 waits 1 count 1 longest 0 sum 0
 waits 2 count 1 longest 0 sum 0
