@@ -32,6 +32,7 @@ macro_rules! script {
     };
 }
 
+mod details;
 mod devices;
 mod examples;
 mod moves;
@@ -40,6 +41,7 @@ mod scenarios;
 mod scripts;
 mod texts;
 
+pub use details::OF_DETAILS;
 pub use devices::{sink_of, source_of};
 pub use examples::{FORK_AND_EXIT, OF_SELECTIONS, OF_TASKS};
 pub use moves::{LAST_TASK_STOLEN, STEAL};
