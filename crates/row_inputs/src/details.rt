@@ -299,8 +299,39 @@ const POLICY_BEGINS_SLICE: Script = script!(
     ],
 );
 
+/// A task waits for the sibling, and could be adopted. Since the running one goes to sleep, the sibling selects anew.
+const BLOCK_ADOPTS_NOTHING: Script = script!(
+    "BLOCK_ADOPTS_NOTHING",
+    2,
+    "8 8 65536",
+    [(1, "fifo:50", 0), (2, "fifo:10", 1), (3, "fifo:20", 1)],
+    [
+        ("c0 prctl 1 1 0 0 0", "0"),
+        ("c0 prctl 1 2 2 0 0", "0"),
+        ("c0 prctl 1 2 3 0 0", "0"),
+        ("c0 wake 1", "Woken 0"),
+        ("c0 wake 2", "Woken 1"),
+        ("s0 turn", "Selected 1 core 1 forced 0"),
+        ("s1 turn", "Adopted 2 core 1 forced 0"),
+        ("c0 wake 3", "Woken 1"),
+        ("s0 resched", "Selected 1 core 1 forced 0"),
+        ("s1 block", "Slept 2 Selected 3 core 1 forced 0"),
+    ],
+    [
+        "clock 0",
+        "numbers 7 7",
+        "core 1 forced 0 occupation 2",
+        "intervals 0",
+        "cpu 0 online runs 1 number 5",
+        "cpu 1 online runs 3 number 7",
+        "task 1 cpu 0 queued cookie 1 forced 0 vtime 0",
+        "task 2 cpu 1 asleep cookie 1 forced 0 vtime 0",
+        "task 3 cpu 1 queued cookie 1 forced 0 vtime 0",
+    ],
+);
+
 /// The worked examples of details.
-pub const OF_DETAILS: [Script; 11] = [
+pub const OF_DETAILS: [Script; 12] = [
     CLASSES_ACROSS_SIBLINGS,
     DEADLINES_ACROSS_SIBLINGS,
     TIE_TO_NEXT_SIBLING,
@@ -312,4 +343,5 @@ pub const OF_DETAILS: [Script; 11] = [
     POLICY_OF_ASLEEP,
     POLICY_RENEWS_DEADLINE,
     POLICY_BEGINS_SLICE,
+    BLOCK_ADOPTS_NOTHING,
 ];
