@@ -8,7 +8,7 @@ const CLASSES_ACROSS_SIBLINGS: Script = script!(
     "CLASSES_ACROSS_SIBLINGS",
     2,
     "8 8 65536",
-    [(1, "fifo:99", 0), (2, "dl:50", 1),],
+    [(1, "fifo:99", 0), (2, "dl:50", 1)],
     [
         ("c0 prctl 1 1 0 0 0", "0"),
         ("c0 prctl 2 1 0 0 0", "0"),
@@ -34,7 +34,7 @@ const DEADLINES_ACROSS_SIBLINGS: Script = script!(
     "DEADLINES_ACROSS_SIBLINGS",
     2,
     "8 8 65536",
-    [(1, "dl:50", 0), (2, "dl:20", 1),],
+    [(1, "dl:50", 0), (2, "dl:20", 1)],
     [
         ("c0 prctl 1 1 0 0 0", "0"),
         ("c0 prctl 2 1 0 0 0", "0"),
@@ -99,7 +99,7 @@ const COOKIE_OF_TARGET: Script = script!(
     "COOKIE_OF_TARGET",
     2,
     "8 8 65536",
-    [(1, "fair:0", 0), (2, "fair:0", 0),],
+    [(1, "fair:0", 0), (2, "fair:0", 0)],
     [
         ("c0 prctl 1 1 0 0 0", "0"),
         ("c0 prctl 2 3 1 0 0", "0"),
@@ -122,7 +122,7 @@ const SAME_COOKIE: Script = script!(
     "SAME_COOKIE",
     2,
     "8 8 65536",
-    [(1, "fair:0", 0),],
+    [(1, "fair:0", 0)],
     [
         ("c0 prctl 1 1 0 0 0", "0"),
         ("c0 wake 1", "Woken 0"),
@@ -146,7 +146,7 @@ const CHILD_OF_OFFLINE_HOME: Script = script!(
     "CHILD_OF_OFFLINE_HOME",
     2,
     "8 8 65536",
-    [(1, "fifo:10", 1),],
+    [(1, "fifo:10", 1)],
     [
         ("c0 offline 1", "Done"),
         ("c0 fork 1 process", "Child 2"),
@@ -169,7 +169,7 @@ const LOWEST_OTHER_SIBLING: Script = script!(
     "LOWEST_OTHER_SIBLING",
     3,
     "8 8 65536",
-    [(1, "fifo:10", 2),],
+    [(1, "fifo:10", 2)],
     [
         ("c0 wake 1", "Woken 2"),
         ("c0 offline 2", "Done"),
@@ -232,8 +232,8 @@ const POLICY_OF_ASLEEP: Script = script!(
     "POLICY_OF_ASLEEP",
     2,
     "8 8 65536",
-    [(1, "fifo:10", 0),],
-    [("c0 setsched 1 stop", "Set"), ("s0 turn", "Nothing"),],
+    [(1, "fifo:10", 0)],
+    [("c0 setsched 1 stop", "Set"), ("s0 turn", "Nothing")],
     [
         "clock 0",
         "numbers 0 0",
@@ -250,7 +250,7 @@ const POLICY_RENEWS_DEADLINE: Script = script!(
     "POLICY_RENEWS_DEADLINE",
     2,
     "8 8 65536",
-    [(1, "dl:50", 0), (2, "dl:20", 0),],
+    [(1, "dl:50", 0), (2, "dl:20", 0)],
     [
         ("c0 wake 1", "Woken 0"),
         ("s0 turn", "Plain 1 core 0 forced 0"),
@@ -276,7 +276,7 @@ const POLICY_BEGINS_SLICE: Script = script!(
     "POLICY_BEGINS_SLICE",
     2,
     "8 8 65536",
-    [(1, "rr:10", 0), (2, "rr:10", 0),],
+    [(1, "rr:10", 0), (2, "rr:10", 0)],
     [
         ("c0 wake 1", "Woken 0"),
         ("s0 turn", "Plain 1 core 0 forced 0"),
@@ -330,8 +330,119 @@ const BLOCK_ADOPTS_NOTHING: Script = script!(
     ],
 );
 
+/// A task alone at its priority begins a new slice at a tick. So the next one comes 1 ns before that is used.
+const SLICE_OF_LONE_TASK: Script = script!(
+    "SLICE_OF_LONE_TASK",
+    2,
+    "8 8 65536",
+    [(1, "rr:10", 0), (2, "rr:10", 0)],
+    [
+        ("c0 wake 1", "Woken 0"),
+        ("s0 turn", "Plain 1 core 0 forced 0"),
+        ("c0 advance 100000000", "Now 100000000"),
+        ("s0 tick", "Ticked no"),
+        ("c0 wake 2", "Woken 0"),
+        ("c0 advance 99999999", "Now 199999999"),
+        ("s0 tick", "Ticked no"),
+    ],
+    [
+        "clock 199999999",
+        "numbers 3 0",
+        "core 0 forced 0 occupation 0",
+        "intervals 0",
+        "cpu 0 online runs 1 number 0",
+        "cpu 1 online runs idle number 0",
+        "task 1 cpu 0 queued cookie 0 forced 0 vtime 0",
+        "task 2 cpu 0 queued cookie 0 forced 0 vtime 0",
+    ],
+);
+
+/// The caller has used its slice but for 1 ns, and its child nothing.
+const SLICE_OF_CHILD: Script = script!(
+    "SLICE_OF_CHILD",
+    2,
+    "8 8 65536",
+    [(1, "rr:10", 0)],
+    [
+        ("c0 wake 1", "Woken 0"),
+        ("s0 turn", "Plain 1 core 0 forced 0"),
+        ("c0 advance 99999999", "Now 99999999"),
+        ("c0 fork 1 process", "Child 2"),
+        ("c0 advance 1", "Now 100000000"),
+        ("s0 tick", "Ticked yes"),
+        ("s0 turn", "Plain 2 core 0 forced 0"),
+        ("c0 advance 1", "Now 100000001"),
+        ("s0 tick", "Ticked no"),
+    ],
+    [
+        "clock 100000001",
+        "numbers 4 0",
+        "core 0 forced 0 occupation 0",
+        "intervals 0",
+        "cpu 0 online runs 2 number 0",
+        "cpu 1 online runs idle number 0",
+        "task 1 cpu 0 queued cookie 0 forced 0 vtime 0",
+        "task 2 cpu 0 queued cookie 0 forced 0 vtime 0",
+    ],
+);
+
+/// A real-time child begins at the least virtual time of its queue, and not at its caller's.
+const VTIME_OF_CHILD: Script = script!(
+    "VTIME_OF_CHILD",
+    2,
+    "8 8 65536",
+    [(1, "fifo:10", 0), (2, "fair:0", 0)],
+    [
+        ("c0 wake 2", "Woken 0"),
+        ("s0 turn", "Plain 2 core 0 forced 0"),
+        ("c0 advance 10", "Now 10"),
+        ("c0 fork 1 process", "Child 3"),
+        ("s0 turn", "Plain 3 core 0 forced 0"),
+    ],
+    [
+        "clock 10",
+        "numbers 4 0",
+        "core 0 forced 0 occupation 0",
+        "intervals 0",
+        "cpu 0 online runs 3 number 0",
+        "cpu 1 online runs idle number 0",
+        "task 1 cpu 0 asleep cookie 0 forced 0 vtime 0",
+        "task 2 cpu 0 queued cookie 0 forced 0 vtime 10",
+        "task 3 cpu 0 queued cookie 0 forced 0 vtime 10",
+    ],
+);
+
+/// A sibling without a task leaves. What waits is adopted under the same core cookie, with a count of 0.
+const LEAVE_ZEROES_COUNT: Script = script!(
+    "LEAVE_ZEROES_COUNT",
+    3,
+    "8 8 65536",
+    [(1, "fifo:50", 0), (2, "fifo:40", 1)],
+    [
+        ("c0 prctl 1 1 0 0 0", "0"),
+        ("c0 prctl 2 1 0 0 0", "0"),
+        ("c0 wake 1", "Woken 0"),
+        ("c0 wake 2", "Woken 1"),
+        ("s1 turn", "Selected idle core 1 forced 1"),
+        ("c0 offline 2", "Done"),
+        ("s0 turn", "Adopted 1 core 1 forced 0"),
+        ("s1 turn", "Selected idle core 1 forced 1"),
+    ],
+    [
+        "clock 0",
+        "numbers 4 4",
+        "core 1 forced 1 occupation 1",
+        "intervals 0",
+        "cpu 0 online runs 1 number 3",
+        "cpu 1 online runs idle number 4",
+        "cpu 2 offline runs idle number 0",
+        "task 1 cpu 0 queued cookie 1 forced 0 vtime 0",
+        "task 2 cpu 1 queued cookie 2 forced 0 vtime 0",
+    ],
+);
+
 /// The worked examples of details.
-pub const OF_DETAILS: [Script; 12] = [
+pub const OF_DETAILS: [Script; 16] = [
     CLASSES_ACROSS_SIBLINGS,
     DEADLINES_ACROSS_SIBLINGS,
     TIE_TO_NEXT_SIBLING,
@@ -344,4 +455,8 @@ pub const OF_DETAILS: [Script; 12] = [
     POLICY_RENEWS_DEADLINE,
     POLICY_BEGINS_SLICE,
     BLOCK_ADOPTS_NOTHING,
+    SLICE_OF_LONE_TASK,
+    SLICE_OF_CHILD,
+    VTIME_OF_CHILD,
+    LEAVE_ZEROES_COUNT,
 ];
