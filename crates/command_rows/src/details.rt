@@ -1,6 +1,6 @@
 //! The worked examples of details: the command plays each, and writes its entries and its report.
 
-use row_inputs::{OF_DETAILS, Script, joined, other_line};
+use row_inputs::{OF_DETAILS, OF_REMEMBERED, Script, joined, other_line};
 use row_runs::replayed;
 use scenario_runner::Status;
 use std::process::Abort;
@@ -21,6 +21,13 @@ fn expect_played<R: Threads + Wait + AllocGlobal + Sync + Abort>(rt: &R, script:
 #[test]
 fn examples_of_details_are_played(rt: HostRuntime) {
     for script in &OF_DETAILS {
+        expect_played(&rt, script);
+    }
+}
+
+#[test]
+fn examples_of_what_is_remembered_are_played(rt: HostRuntime) {
+    for script in &OF_REMEMBERED {
         expect_played(&rt, script);
     }
 }
