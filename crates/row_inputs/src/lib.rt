@@ -4,13 +4,15 @@
 
 /// The script of this name, of this many siblings, of these limits, of these tasks, of these steps, each with its
 /// reply, of the picks of the final drain, if it makes any, each with its sibling, and of the lines of this
-/// report. A task is its pid, its policy and its sibling. It leads its own groups, and all are one user's.
+/// report. A task is its pid, its policy and its sibling, and has the ids of one user and no capability. Others, if
+/// there are any, stand after these, with their own ids and capability. Each leads its own groups.
 macro_rules! script {
     (
         $name:literal,
         $siblings:literal,
         $limits:literal,
         [$(($pid:literal, $policy:literal, $cpu:literal)),* $(,)?],
+        $(of_others [$(($other:literal, $others:literal, $at:literal, $credentials:literal)),+ $(,)?],)?
         [$(($step:literal, $reply:literal)),* $(,)?],
         $(end [$(($last:literal, $pick:literal)),+ $(,)?],)?
         [$($line:literal),+ $(,)?] $(,)?
@@ -20,6 +22,7 @@ macro_rules! script {
             text: concat!(
                 "coresched 1\nsiblings ", $siblings, "\nlimits ", $limits, "\n",
                 $("task ", $pid, " ", $pid, " ", $pid, " ", $cpu, " ", $policy, " 1000 1000 1000 1000 1000 1000 0 1 1\n",)*
+                $($("task ", $other, " ", $other, " ", $other, " ", $at, " ", $others, " ", $credentials, " 1 1\n",)+)?
                 $("step ", $step, "\n",)*
                 "end\n"
             ),

@@ -234,6 +234,42 @@ const CHILD_IN_PROCESS_GROUP: Script = script!(
     ],
 );
 
+/// Task 2 is another user's, and task 3 has the capability. So task 1 may access neither's child. The child of task 2 may
+/// not access task 1 either, but its parent may access it. The child of task 3 may access another user's task.
+const CREDENTIALS_OF_CHILD: Script = script!(
+    "CREDENTIALS_OF_CHILD",
+    2,
+    "8 8 65536",
+    [(1, "fifo:10", 0)],
+    of_others[
+        (2, "fifo:10", 0, "2000 2000 2000 2000 2000 2000 0"),
+        (3, "fifo:10", 0, "1000 1000 1000 1000 1000 1000 1"),
+    ],
+    [
+        ("c0 fork 2 process", "Child 4"),
+        ("c0 fork 3 process", "Child 5"),
+        ("c0 prctl 1 0 4 0 4096", "EPERM"),
+        ("c0 prctl 4 0 1 0 4096", "EPERM"),
+        ("c0 prctl 2 0 4 0 4096", "0 value 0"),
+        ("c0 prctl 1 0 5 0 4096", "EPERM"),
+        ("c0 prctl 5 0 2 0 4096", "0 value 0"),
+        ("s0 turn", "Plain 4 core 0 forced 0"),
+    ],
+    [
+        "clock 0",
+        "numbers 3 0",
+        "core 0 forced 0 occupation 0",
+        "intervals 0",
+        "cpu 0 online runs 4 number 0",
+        "cpu 1 online runs idle number 0",
+        "task 1 cpu 0 asleep cookie 0 forced 0 vtime 0",
+        "task 2 cpu 0 asleep cookie 0 forced 0 vtime 0",
+        "task 3 cpu 0 asleep cookie 0 forced 0 vtime 0",
+        "task 4 cpu 0 queued cookie 0 forced 0 vtime 0",
+        "task 5 cpu 0 queued cookie 0 forced 0 vtime 0",
+    ],
+);
+
 /// Task 1 becomes fair while it is queued, and gets the least of its queue, 10.
 const VTIME_AT_SETSCHED: Script = script!(
     "VTIME_AT_SETSCHED",
@@ -290,7 +326,7 @@ const VTIME_KEPT_BY_OTHER_CLASS: Script = script!(
 );
 
 /// The worked examples of what is remembered.
-pub const OF_REMEMBERED: [Script; 9] = [
+pub const OF_REMEMBERED: [Script; 10] = [
     OCCUPATION_OF_IDLE,
     OCCUPATION_OF_CHILD,
     PLAIN_PICK_RENEWS_SNAPSHOT,
@@ -298,6 +334,7 @@ pub const OF_REMEMBERED: [Script; 9] = [
     LEAST_STAYS,
     KEPT_WHILE_OFFLINE,
     CHILD_IN_PROCESS_GROUP,
+    CREDENTIALS_OF_CHILD,
     VTIME_AT_SETSCHED,
     VTIME_KEPT_BY_OTHER_CLASS,
 ];
