@@ -227,6 +227,38 @@ const FIRST_OF_SEVERAL_STOLEN: Script = script!(
     ],
 );
 
+/// The core's cookie is 0 when the try comes that was set while it was 2. So task 3, which has no cookie either, is not
+/// stolen.
+const NO_STEAL_UNDER_COOKIE_0: Script = script!(
+    "NO_STEAL_UNDER_COOKIE_0",
+    2,
+    "8 8 65536",
+    [(1, "fifo:10", 0), (2, "fifo:50", 1), (3, "fifo:20", 1)],
+    [
+        ("c0 prctl 1 1 0 0 0", "0"),
+        ("c0 prctl 2 1 0 0 0", "0"),
+        ("c0 wake 1", "Woken 0"),
+        ("c0 wake 2", "Woken 1"),
+        ("c0 wake 3", "Woken 1"),
+        ("s0 turn", "Selected idle core 2 forced 1"),
+        ("s1 turn", "Adopted 2 core 2 forced 1"),
+        ("c0 prctl 3 2 2 0 0", "0"),
+        ("s1 turn", "Selected 2 core 0 forced 1"),
+        ("s0 turn", "Missed 1"),
+    ],
+    [
+        "clock 0",
+        "numbers 6 6",
+        "core 0 forced 1 occupation 1",
+        "intervals 0",
+        "cpu 0 online runs idle number 4",
+        "cpu 1 online runs 2 number 6",
+        "task 1 cpu 0 queued cookie 1 forced 0 vtime 0",
+        "task 2 cpu 1 queued cookie 0 forced 0 vtime 0",
+        "task 3 cpu 1 queued cookie 0 forced 0 vtime 0",
+    ],
+);
+
 /// An asleep task that is given a policy stays asleep, and nobody is to reschedule.
 const POLICY_OF_ASLEEP: Script = script!(
     "POLICY_OF_ASLEEP",
@@ -442,7 +474,7 @@ const LEAVE_ZEROES_COUNT: Script = script!(
 );
 
 /// The worked examples of details.
-pub const OF_DETAILS: [Script; 16] = [
+pub const OF_DETAILS: [Script; 17] = [
     CLASSES_ACROSS_SIBLINGS,
     DEADLINES_ACROSS_SIBLINGS,
     TIE_TO_NEXT_SIBLING,
@@ -451,6 +483,7 @@ pub const OF_DETAILS: [Script; 16] = [
     CHILD_OF_OFFLINE_HOME,
     LOWEST_OTHER_SIBLING,
     FIRST_OF_SEVERAL_STOLEN,
+    NO_STEAL_UNDER_COOKIE_0,
     POLICY_OF_ASLEEP,
     POLICY_RENEWS_DEADLINE,
     POLICY_BEGINS_SLICE,
