@@ -82,6 +82,35 @@ const OCCUPATION_OF_CHILD: Script = script!(
     ],
 );
 
+/// One task is chosen, and the sibling that selects leaves with none of its own. The other adopts the task, and the
+/// occupation is 0.
+const LEAVE_ZEROES_OCCUPATION: Script = script!(
+    "LEAVE_ZEROES_OCCUPATION",
+    2,
+    "8 8 65536",
+    [(1, "fifo:50", 0), (2, "fifo:10", 1)],
+    [
+        ("c0 prctl 1 1 0 0 0", "0"),
+        ("c0 prctl 1 2 2 0 0", "0"),
+        ("c0 wake 2", "Woken 1"),
+        ("s1 turn", "Selected 2 core 1 forced 0"),
+        ("c0 wake 1", "Woken 0"),
+        ("s1 block", "Slept 2 Selected idle core 1 forced 0"),
+        ("c0 offline 1", "Done"),
+        ("s0 turn", "Adopted 1 core 1 forced 0"),
+    ],
+    [
+        "clock 0",
+        "numbers 5 5",
+        "core 1 forced 0 occupation 0",
+        "intervals 0",
+        "cpu 0 online runs 1 number 5",
+        "cpu 1 offline runs idle number 5",
+        "task 1 cpu 0 queued cookie 1 forced 0 vtime 0",
+        "task 2 cpu 1 asleep cookie 1 forced 0 vtime 0",
+    ],
+);
+
 /// Task 1 ran for 10 ns, and the plain pick after that renews its sibling's snapshot to 10. So task 2, which never ran,
 /// ties with it, and the selecting sibling takes its own.
 const PLAIN_PICK_RENEWS_SNAPSHOT: Script = script!(
@@ -209,6 +238,44 @@ const KEPT_WHILE_OFFLINE: Script = script!(
     ],
 );
 
+/// Sibling 1 is back with its snapshot 10, though its least is 20 by then. Task 1 is at 20, and so is as far ahead of 10
+/// as task 2 is of the snapshot there: at first 10 of 0, and then 20 of 10. Each time the selecting sibling takes its own.
+const SNAPSHOT_KEPT_WHILE_OFFLINE: Script = script!(
+    "SNAPSHOT_KEPT_WHILE_OFFLINE",
+    2,
+    "8 8 65536",
+    [(1, "fair:0", 1), (2, "fair:0", 0)],
+    [
+        ("c0 wake 1", "Woken 1"),
+        ("s1 turn", "Plain 1 core 0 forced 0"),
+        ("c0 advance 10", "Now 10"),
+        ("s1 resched", "Plain 1 core 0 forced 0"),
+        ("c0 wake 2", "Woken 0"),
+        ("s0 turn", "Plain 2 core 0 forced 0"),
+        ("c0 advance 10", "Now 20"),
+        ("s1 block", "Slept 1 Plain idle core 0 forced 0"),
+        ("c0 offline 1", "Done"),
+        ("c0 online 1", "Done"),
+        ("c0 prctl 1 1 0 0 0", "0"),
+        ("c0 prctl 2 1 0 0 0", "0"),
+        ("c0 wake 1", "Woken 1"),
+        ("s0 turn", "Selected 2 core 2 forced 1"),
+        ("c0 advance 10", "Now 30"),
+        ("s1 turn", "Selected 1 core 1 forced 1"),
+        ("s0 turn", "Adopted idle core 1 forced 1"),
+    ],
+    [
+        "clock 30",
+        "numbers 11 11",
+        "core 1 forced 1 occupation 1",
+        "intervals 1",
+        "cpu 0 online runs idle number 11",
+        "cpu 1 online runs 1 number 11",
+        "task 1 cpu 1 queued cookie 1 forced 0 vtime 20",
+        "task 2 cpu 0 queued cookie 2 forced 10 vtime 20",
+    ],
+);
+
 /// A child is in its caller's process group, so a cookie for that group is the child's too.
 const CHILD_IN_PROCESS_GROUP: Script = script!(
     "CHILD_IN_PROCESS_GROUP",
@@ -326,13 +393,15 @@ const VTIME_KEPT_BY_OTHER_CLASS: Script = script!(
 );
 
 /// The worked examples of what is remembered.
-pub const OF_REMEMBERED: [Script; 10] = [
+pub const OF_REMEMBERED: [Script; 12] = [
     OCCUPATION_OF_IDLE,
     OCCUPATION_OF_CHILD,
+    LEAVE_ZEROES_OCCUPATION,
     PLAIN_PICK_RENEWS_SNAPSHOT,
     SELECTION_RENEWS_SNAPSHOT,
     LEAST_STAYS,
     KEPT_WHILE_OFFLINE,
+    SNAPSHOT_KEPT_WHILE_OFFLINE,
     CHILD_IN_PROCESS_GROUP,
     CREDENTIALS_OF_CHILD,
     VTIME_AT_SETSCHED,
