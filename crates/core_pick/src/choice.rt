@@ -20,10 +20,10 @@ use task_table::TaskTable;
 pub struct Choice {
     /// Its cookie, 0 for none.
     pub cookie: Cookie,
-    /// Its number, 0 for idle.
-    pub pid: Pid,
     /// Its class, the smaller the higher.
     pub class: u32,
+    /// Its number, 0 for idle.
+    pub pid: Pid,
 }
 
 impl Choice {

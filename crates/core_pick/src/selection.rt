@@ -144,13 +144,17 @@ fn lead_alone<Q: SiblingQueue>(core: &Core<Q>, cpu: Cpu, first: &First) -> First
     }
 }
 
-/// The lead of some siblings and of one more, of whose first this is kept. One that is offline puts up nothing.
+/// The lead of some siblings and of one more, of whose first this is kept. One that is offline puts up nothing, and
+/// idle leads nobody.
 #[inline(always)]
 fn lead_with<Q: SiblingQueue>(core: &Core<Q>, cpu: Cpu, lead: First, first: First) -> First
     requires { cpu < length core.now.lanes.items }
     ensures { (table : Table) → MayAsk cpu (core.now, table) →
         KeepsFirst cpu (core.now, table) first → LeadsWith cpu (core.now, table) lead result }
 {
+    if first.choice.is_idle() {
+        return lead;
+    }
     if core.is_online(cpu) {
         lead.or_higher(first)
     } else {
