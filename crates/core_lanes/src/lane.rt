@@ -2,7 +2,8 @@
 
 ghost use Rattle.std.specs.Prelude.{◌≡◌, Some};
 ghost use Rattle.cs_types.specs.Selection.{is_run};
-ghost use Rattle.core_lanes.specs.Lanes.{lane_start, lane_view};
+ghost use Rattle.core_lanes.specs.Lanes.{lane_start, lane_state, lane_view};
+ghost use Rattle.core_lanes.specs.Account.{charged_for};
 
 use cs_types::{CpuView, Pid};
 
@@ -61,6 +62,21 @@ impl<Q: Drop> Lane<Q> {
         ensures { result ≡ is_run self.now.run (Some pid) }
     {
         self.run == Some(pid)
+    }
+
+    /// The task that is charged for it: what waits for it, or, if nothing waits, what it runs, if that is a task and it
+    /// is online.
+    pub fn charged(&self) -> Option<Pid>
+        ensures { result ≡ charged_for (lane_state self.now) }
+    {
+        // Mostly a sibling runs idle, and nothing waits for it.
+        if !self.online || (self.run.is_none() && self.waiting.is_none()) {
+            return None;
+        }
+        match self.waiting {
+            Some(waiting) => waiting,
+            None => self.run,
+        }
     }
 
     /// What a machine shows of it.

@@ -143,19 +143,20 @@ impl TaskTable {
         Ok(())
     }
 
-    /// Charges the task with the pid a share, in ns (`__sched_core_account_forceidle`). Its total stays below 2^64.
+    /// Charges the task with the pid a share, in ns (`__sched_core_account_forceidle`). Its total stays below 2^64. If
+    /// there is none, nothing changes.
+    #[inline(always)]
     pub fn raise(&mut self, pid: Pid, share: u64)
-        requires there { IsSome (find (has_pid pid) self.old.tasks) }
         requires fits { total_in self.old pid + share < 2 ^ 64 }
         ensures rest { self.new ≡ record self.old { totals = self.new.totals } }
-        ensures totals { (other : ℕ) → total_in self.new other
-            ≡ total_in self.old other + (if other == pid then share else 0) }
+        ensures totals { IsSome (find (has_pid pid) self.old.tasks) → (other : ℕ) →
+            total_in self.new other ≡ total_in self.old other + (if other == pid then share else 0) }
+        ensures absent { find (has_pid pid) self.old.tasks ≡ None → self.new ≡ self.old }
         ensures sound { IsSound self.new }
     {
-        let Ok(position) = self.position_of(pid) else {
-            unreachable!()
-        };
-        self.entries[position].forced += share;
+        if let Ok(position) = self.position_of(pid) {
+            self.entries[position].forced += share;
+        }
     }
 
     /// Puts the task in the position of the one with its pid, which it gives back. It has that one's total. `None`

@@ -11,7 +11,7 @@ use Rattle.core_lanes.specs.Lanes.{Beside, at, room_of, bare}
 use Rattle.core_lanes.specs.Numbers.{Numbers, numbers_in, numbers_by, booked, with_ended}
 use Rattle.core_lanes.proofs.Stays.{some_beside, kept_stays, alike_stays}
 use Rattle.core_lanes.specs.Account.{Owes}
-use Rattle.core_lanes.proofs.Accounts.{charged_in}
+use Rattle.core_lanes.proofs.Accounts.{charged_in, charged_alive}
 use Rattle.core_lanes.proofs.account.charge.Given.{Over}
 use Rattle.core_lanes.proofs.account.charge.Goals as goal
 
@@ -57,7 +57,7 @@ returns-in-Some g c = record {
         let total : (pid : ℕ) → total_in c.charge_tasks.new.table pid + total_among beside.ended pid ≡ total_of pid (charge room).intervals =
         λ pid. omega (
           arith,
-          (owes g c beside).totals pid,
+          (owes g c beside).totals pid ∙ ap (λ b. total_in c.args.table.now pid + cond b c.in-Some.share 0) (charged_alive room pid),
           owed_is room c.in-Some.share pid (open_interval room) refl is,
           ap (λ (numbers : Numbers). numbers.totals pid) kept,
           total_of-more pid beside.intervals (open_interval room),

@@ -1,20 +1,14 @@
-use Rattle.std.proofs.Common.{arith, ◌+◌, ◌∙◌, ap, refl, set, if◌then◌else◌}
+use Rattle.std.proofs.Common.{arith, ◌≡◌, ◌+◌, ◌∙◌, ap, sym, subst, refl, set, if◌then◌else◌, Some}
 use Rattle.std.specs.Prelude.{find, ◌==◌}
 use Rattle.std.specs.Option.{IsSome}
 use Rattle.cs_types.specs.Room.{has_pid}
 use Rattle.task_table.specs.declared.entry.Entry.{Entry}
 use Rattle.task_table.specs.Table.{Table, total_in}
 use Rattle.task_table.specs.Inside.{IsKept}
-use Rattle.task_table.proofs.Rising.{none_gap, find_none}
-use Rattle.task_table.proofs.Kept.{kept_of, kept_again, seen_as, position_within, kept_entry}
+use Rattle.task_table.proofs.Rising.{none_gap, find_none, find_at}
+use Rattle.task_table.proofs.Kept.{at_some, kept_of, kept_again, seen_as, position_within, kept_entry}
 use Rattle.task_table.proofs.Totals.{total-at, total-set}
 use Rattle.task_table.proofs.table.TaskTable.raise.Goals as goal
-
-pub unreachable-requires : goal.unreachable-requires
-unreachable-requires c =
-    let none = find_none c.args.pid c.args.self.now.tasks (none_gap c.args.pid _ c.args.self.now.tasks c.in_default.ensures.position) in
-    let there : IsSome (find (has_pid c.args.pid) c.args.self.now.tasks) = c.requires.there in
-    let bad = rw none at there in absurd cc
 
 pub index_mut-requires : goal.index_mut-requires
 index_mut-requires c =
@@ -40,11 +34,11 @@ after c = kept_entry (kept_of _ _ _ _ _ _ _ c.self.view_is c.self.invariant) c.i
 pub invariant_of-self : goal.invariant_of-self
 invariant_of-self c = kept_again (after c)
 
-pub returns-clause-rest : goal.returns-clause-rest
-returns-clause-rest c = seen_as _ _ _ _ _ _ _ _ (after c) (ap (λ (t : Table). t.limit) c.self.view_is)
+pub returns-in-Ok-clause-rest : goal.returns-in-Ok-clause-rest
+returns-in-Ok-clause-rest c = seen_as _ _ _ _ _ _ _ _ (after c) (ap (λ (t : Table). t.limit) c.self.view_is)
 
-pub returns-clause-totals : goal.returns-clause-totals
-returns-clause-totals c other =
+pub returns-in-Ok-clause-totals : goal.returns-in-Ok-clause-totals
+returns-in-Ok-clause-totals c here other =
     let kept = kept_of _ _ _ _ _ _ _ c.self.view_is c.self.invariant in
     let old = c.self.inside.entries.items in
     let there = total-at c.args.pid c.in-Ok.position old c.args.self.now.tasks c.index_mut.result.now kept.index c.in-Ok.ensures.position in
@@ -52,5 +46,19 @@ returns-clause-totals c other =
     (ap (λ (entry : Entry). entry.pid) c.index_mut.ensures.value ∙ there.0) there.0 (ap (λ (entry : Entry). entry.forced + c.args.share) c.index_mut.ensures.value)
     ∙ ap (λ (table : Table). total_in table other + (if other == c.args.pid then c.args.share else 0)) c.self.view_is
 
-pub returns-clause-sound : goal.returns-clause-sound
-returns-clause-sound c = (kept_again (after c)).sound
+pub returns-in-Ok-clause-sound : goal.returns-in-Ok-clause-sound
+returns-in-Ok-clause-sound c = (kept_again (after c)).sound
+
+pub returns-in-Ok-clause-absent : goal.returns-in-Ok-clause-absent
+returns-in-Ok-clause-absent c none =
+    let there = at_some c.args.pid c.in-Ok.position c.args.self.now.tasks c.in-Ok.ensures.position in
+    let found : find (has_pid c.args.pid) c.args.self.now.tasks ≡ Some there.0 =
+    find_at c.args.pid c.in-Ok.position c.args.self.now.tasks c.in-Ok.ensures.position ∙ there.1 in
+    let bad = sym none ∙ found in
+    absurd cc
+
+pub returns-in_default-clause-totals : goal.returns-in_default-clause-totals
+returns-in_default-clause-totals c there =
+    let none = find_none c.args.pid c.args.self.now.tasks (none_gap c.args.pid _ c.args.self.now.tasks c.in_default.ensures.position) in
+    let bad = subst IsSome none there in
+    absurd cc
