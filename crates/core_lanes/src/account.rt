@@ -19,6 +19,14 @@ use task_table::TaskTable;
 /// The pids to which an interval was charged, each once.
 type Charged = ArrayVec<Pid, MOST_SIBLINGS>;
 
+/// Whether the pid is one of these, which are few.
+#[inline(always)]
+fn is_among(charged: &[Pid], pid: Pid) -> bool
+    ensures { result ≡ list_any (λ one. one == pid) charged.now }
+{
+    charged.iter().any(|one| *one == pid)
+}
+
 /// Charges the task with the pid, if there is one, the share, in ns, unless the pid is one of these. Then it is.
 #[inline(always)]
 fn charge_once(table: &mut TaskTable, charged: &mut Charged, pid: Pid, share: u64)
@@ -31,7 +39,7 @@ fn charge_once(table: &mut TaskTable, charged: &mut Charged, pid: Pid, share: u6
     ensures owes { (first : Table) → Owes charged.old.items share first table.old →
         Owes charged.new.items share first table.new }
 {
-    if !charged.contains(&pid) {
+    if !is_among(charged, pid) {
         charged.push(pid);
         table.raise(pid, share);
     }

@@ -69,8 +69,7 @@ impl<Q: Drop> Lane<Q> {
     pub fn charged(&self) -> Option<Pid>
         ensures { result ≡ charged_for (lane_state self.now) }
     {
-        // Mostly a sibling runs idle, and nothing waits for it.
-        if !self.online || (self.run.is_none() && self.waiting.is_none()) {
+        if !self.online {
             return None;
         }
         match self.waiting {
