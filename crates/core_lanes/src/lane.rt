@@ -64,8 +64,8 @@ impl<Q: Drop> Lane<Q> {
         self.run == Some(pid)
     }
 
-    /// The task that is charged for it: what waits for it, or, if nothing waits, what it runs, if that is a task and it
-    /// is online.
+    /// The pid that is charged for it, if a task has it: that of what waits for it, or, if nothing waits, of what it runs.
+    /// None if that is idle, or if it is offline.
     pub fn charged(&self) -> Option<Pid>
         ensures { result ≡ charged_for (lane_state self.now) }
     {

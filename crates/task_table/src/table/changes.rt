@@ -150,7 +150,8 @@ impl TaskTable {
         requires fits { total_in self.old pid + share < 2 ^ 64 }
         ensures rest { self.new ≡ record self.old { totals = self.new.totals } }
         ensures totals { IsSome (find (has_pid pid) self.old.tasks) → (other : ℕ) →
-            total_in self.new other ≡ total_in self.old other + (if other == pid then share else 0) }
+            total_in self.new other
+            ≡ total_in self.old other + (if other == pid then share else 0) }
         ensures absent { find (has_pid pid) self.old.tasks ≡ None → self.new ≡ self.old }
         ensures sound { IsSound self.new }
     {
