@@ -1,6 +1,6 @@
 #!/usr/bin/env python3
 """Compares the built program with the rules as reference.py has them: statuses, fault lines and every line of the
-output. Where they differ, the scenario and both outputs are kept in a folder of the system's temporary one.
+output of `replay`, and what `upgrade` makes of the same text, which is replayed too. Where they differ, the scenario and both outputs are kept in a folder of the system's temporary one.
 
 Usage: fuzz.py --program PATH --count N --seed S [--mutated | --both | --limits] [--coverage]
        fuzz.py --crate .../crates/coresched --count N --seed S [--mutated | --both | --limits]
@@ -63,8 +63,18 @@ class Compare:
         return reference.replay(data, self.stats)
 
     def one(self, name, data):
-        want, got = self.wanted(data), ran([self.path, 'replay'], data)
+        want = self.wanted(data)
         self.ends[end_of(want)] += 1
+        self.same(name, data, 'replay', want)
+        upgraded = reference.upgrade(data)
+        self.same(name + '-upgrade', data, 'upgrade', upgraded)
+        if upgraded[0] == 0 and want[0] == 0:
+            self.same(name + '-upgraded', upgraded[1], 'replay', want)
+            self.same(name + '-again', upgraded[1], 'upgrade', upgraded)
+
+    def same(self, name, data, command, want):
+        """Expects that of the command over the text."""
+        got = ran([self.path, command], data)
         if got != want:
             self.diffs += 1
             self.keep(name, data, want, got)

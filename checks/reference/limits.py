@@ -48,6 +48,45 @@ def limits_of_tasks():
         yield 'setsched ' + p, text_with(steps=('step c0 setsched 1 ' + p,))
 
 
+def second(siblings='siblings 2', users=('user 0 ' + IDS,), tasks=('task 1 1 1 0 fifo:1 0',), **rest):
+    """A text of version 2."""
+    return text_with(head='coresched 2', siblings=siblings, tasks=(*users, *tasks), **rest)
+
+
+def limits_of_users():
+    other = 'user 1 7 7 7 7 7 7 0 0 0'
+    yield 'version 2', second()
+    yield 'version 2 and no user', second(users=(), tasks=())
+    for v in spread(1, 16):
+        yield 'siblings of version 2 ' + v, second(siblings='siblings ' + v, users=(), tasks=())
+    for i in ['s9', 's10', 's15', 's16', 's015', 's1', 's']:
+        yield 'actor %s of 16' % i, second(siblings='siblings 16', steps=('step %s turn' % i, 'step c0 offline ' + i[1:]))
+    for k, (low, high) in enumerate([(0, 255)] + [(0, 65535)] * 6 + [(0, 1)] * 3):
+        for v in spread(low, high):
+            yield 'user %d %s' % (k, v), second(users=(with_word('user 0 ' + IDS, k, v),))
+    for v in spread(0, 255) + ['1', '2']:
+        yield 'user of a task ' + v, second(users=('user 0 ' + IDS, other), tasks=('task 1 1 1 0 fifo:1 0', 'task 2 2 2 0 fifo:1 ' + v))
+    for users in [('user 1 ' + IDS,), ('user 0 ' + IDS, 'user 1 ' + IDS), ('user 0 ' + IDS, 'user 0' + other[6:]),
+                  ('user 0 ' + IDS, 'user 2' + other[6:]), ('user 0 ' + IDS, other), ('user 0 ' + IDS, other, 'user 2 ' + IDS), (other,)]:
+        for tasks in [(), ('task 1 1 1 0 fifo:1 0',), ('task 1 1 1 0 fifo:1 1',), ('task 1 1 1 0 fifo:1 0', 'task 2 2 2 0 fifo:1 1')]:
+            for rest in [{}, {'teaches': ('teach 0 1 2',)}, {'steps': ('step s0 turn',)}, {'steps': ('step s0 turns',)}, {'end': 'end'}]:
+                yield 'users %s %s %s' % (users, tasks, rest), second(users=users, tasks=tasks, **rest)
+    for line in ['user', 'user 0', 'user 0 ' + IDS + ' 0', 'user 0 ' + IDS[:-2], 'user  0 ' + IDS, 'User 0 ' + IDS]:
+        yield line, second(users=(line,))
+    for task in [TASK, 'task 1 1 1 0 fifo:1', 'task 1 1 1 0 fifo:1 0 0', 'task 1 1 1 0 fifo 0', 'task 1 1 1 0 fifo:1 00']:
+        yield 'version 2 ' + task, second(tasks=(task,))
+    yield 'user after a task', second(tasks=('task 1 1 1 0 fifo:1 0', other))
+    yield 'user in version 1', text_with(tasks=('user 0 ' + IDS, TASK))
+    yield 'user of version 1', text_with(tasks=('task 1 1 1 0 fifo:1 0',))
+    yield 'twice and no user', second(tasks=('task 1 1 1 0 fifo:1 0', 'task 1 1 1 0 fifo:1 5'))
+    yield 'leader and no user', second(tasks=('task 1 1 1 0 fifo:1 0', 'task 2 3 1 0 fifo:1 5'))
+    yield 'full and no user', second(limits='limits 1 1 8192', tasks=('task 1 1 1 0 fifo:1 0', 'task 2 2 2 0 fifo:1 5'))
+    for k in (255, 256, 257):
+        users = tuple('user %d %d 0 0 0 0 0 0 1 1' % (u, u) for u in range(k))
+        tasks = tuple('task %d %d %d 0 fifo:1 %d' % (u + 1, u + 1, u + 1, u) for u in range(min(k, 256)))
+        yield '%d users' % k, second(users=users, tasks=tasks, limits='limits 256 8 65536')
+
+
 def limits_of_steps():
     for v in spread(1, 999999):
         for form in ['wake %s', 'fork %s thread', 'prctl %s 0 0 0 0', 'setsched %s stop']:
@@ -112,7 +151,7 @@ def asked_often():
 
 
 def limits_of_ends():
-    for h in ['coresched 0', 'coresched 2', 'coresched 3', 'coresched 01', 'Coresched 1', 'coresched  1', 'coresched 1 ', '']:
+    for h in ['coresched 0', 'coresched 2', 'coresched 3', 'coresched 01', 'coresched 02', 'Coresched 1', 'coresched  1', 'coresched 1 ', '']:
         yield 'head ' + h, text_with(head=h)
     for e in ['end', '', 'end\n\n', 'end\nend\n', 'end\nend', 'end\nx', 'end \n', ' end\n', 'end\r\n', 'step s0 turn', 'step s0 turn\n',
               'end\n ']:
@@ -174,6 +213,6 @@ def limits_of_length():
 
 def limit_texts():
     """Pairs (name, text) at and past each limit of the format."""
-    for texts_of in (limits_of_heads, limits_of_tasks, limits_of_teaches, limits_of_steps, limits_of_ends, limits_of_many,
+    for texts_of in (limits_of_heads, limits_of_tasks, limits_of_users, limits_of_teaches, limits_of_steps, limits_of_ends, limits_of_many,
                      limits_of_length):
         yield from texts_of()

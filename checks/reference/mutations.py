@@ -3,7 +3,7 @@ import random
 
 from scenarios import IDS, scenario
 
-WORDS = [b'', b'0', b'1', b'2', b'7', b'8', b'9', b'-0', b'+1', b'-1', b'01', b'00', b'1x', b'x', b'1 ', b'\xff', b'\xc3\xa9',
+WORDS = [b'', b'0', b'1', b'2', b'7', b'8', b'9', b'15', b'16', b'17', b'255', b'-0', b'+1', b'-1', b'01', b'00', b'1x', b'x', b'1 ', b'\xff', b'\xc3\xa9',
          b'1\t', b'1\r', b'\t', b'1.0', b'1e3', b'0x10', b'256', b'257', b'8191', b'8192', b'9999', b'10000', b'65535', b'65536',
          b'999999', b'1000000', b'1000000000', b'1000000001', b'2147483647', b'2147483648', b'-2147483648', b'-2147483649',
          b'4294967295', b'4294967296', b'9223372036854775807', b'9223372036854775808', b'18446744073709551615',
@@ -12,9 +12,9 @@ WORDS = [b'', b'0', b'1', b'2', b'7', b'8', b'9', b'-0', b'+1', b'-1', b'01', b'
          b'rr:99', b'rr:100', b'rr:+1', b'dl:', b'dl:0', b'dl:1', b'dl:1000000000', b'dl:1000000001', b'dl:-1', b'fair:', b'fair:-21',
          b'fair:-20', b'fair:19', b'fair:20', b'fair:-0', b'fair:0', b'fair:00', b'fair:-01', b'fair:+0', b'fair:--1', b'fair:-',
          b'stop', b'stop:', b'stop:1', b'Stop', b'idle', b'idle:0', b'batch:0', b'FIFO:1', b':1', b'fifo :1', b'fifo;1',
-         b's', b'c', b's0', b's1', b's7', b's8', b's-1', b's00', b'c0', b'c7', b'c8', b'c07', b'cx', b'sx', b'x0', b'S0', b'C0', b'end', b'cend',
+         b's', b'c', b's0', b's1', b's7', b's8', b's9', b's10', b's15', b's16', b's-1', b's00', b'c0', b'c7', b'c8', b'c07', b'cx', b'sx', b'x0', b'S0', b'C0', b'end', b'cend',
          b'turn', b'resched', b'block', b'exit', b'tick', b'wake', b'advance', b'fork', b'prctl', b'setsched', b'offline', b'online', b'load',
-         b'unload', b'thread', b'process', b'step', b'task', b'teach', b'siblings', b'limits', b'coresched']
+         b'unload', b'thread', b'process', b'step', b'task', b'teach', b'user', b'siblings', b'limits', b'coresched']
 LINES = [b'', b' ', b'end', b'end ', b' end', b'End', b'end\r', b'task', b'step', b'step s0', b'step c0', b'step s0 turn', b'step s0  turn',
          b'step s0 turn ', b' step s0 turn', b'step  s0 turn', b'step s0 turn 1', b'step s0 wake 1', b'step c0 turn', b'step c0 wake',
          b'step c0 wake 1 2', b'step c0 fork 1', b'step c0 fork 1 both', b'step c0 fork x thread', b'step c9 turn', b'step s9 wake 1',
@@ -23,7 +23,8 @@ LINES = [b'', b' ', b'end', b'end ', b' end', b'End', b'end\r', b'task', b'step'
          b'step c0 online 9', b'step s0 offline 0', b'step s0 load 0', b'teach 0 1 2', b'teach 0 1', b'teach 0 1 2 3',
          b'teach 16 0 0', b'teach 15 0 65535', b'teach 3 65536 0', b'teach 00 1 2', b'teach  0 1 2', b'coresched 1', b'coresched 2',
          b'siblings 2', b'limits 8 8 65536', b'task 1 1 1 0 fifo:1 ' + IDS.encode(), b'task 1 1 1 0 fifo:1 ' + IDS.encode() + b' 0',
-         b'budget 1 1 1', b'#', b'\x00', b'\xff\xfe', b'user']
+         b'budget 1 1 1', b'#', b'\x00', b'\xff\xfe', b'user', b'user 0 ' + IDS.encode(), b'user 1 ' + IDS.encode(), b'user 0', b'user 256 ' + IDS.encode(),
+         b'user 1 7 7 7 7 7 7 0 1 1', b'task 1 1 1 0 fifo:1 0', b'task 2 2 2 0 fifo:1 1', b'task 2 2 2 0 fifo:1 256']
 
 
 def line_of(rng, data):

@@ -107,7 +107,7 @@ CALLER_EVENTS = {
 
 class Scenario:
     def __init__(self):
-        self.siblings = self.limit = self.cookies = self.top = 0
+        self.version = self.siblings = self.limit = self.cookies = self.top = 0
         self.tasks = []         # tuples, in the file's order
         self.teaches = []       # (line, guard, from, to)
         self.steps = []         # (actor text, event tuple, text of the step)
@@ -119,20 +119,23 @@ class Reader:
     def __init__(self):
         self.s = Scenario()
         self.groups = {}            # of each pid its thread group and its process group
+        self.users = []             # in version 2 the nine values of each user line
+        self.named = 0              # how many of them task lines name
         self.has_steps = False
         self.place = 0
         self.take = self.take_version
 
     def take_version(self, line):
-        if line != b'coresched 1':
+        if line not in (b'coresched 1', b'coresched 2'):
             raise Bad('Shape')
+        self.s.version = int(line[-1:])
         self.take = self.take_siblings
 
     def take_siblings(self, line):
         words = words_of(line)
         if words[0] != b'siblings' or len(words) != 2:
             raise Bad('Shape')
-        self.s.siblings = number(words[1], 1, 8)
+        self.s.siblings = number(words[1], 1, 16 if self.s.version == 2 else 8)
         if self.s.siblings is None:
             raise Bad('Number')
         self.take = self.take_limits
@@ -150,16 +153,21 @@ class Reader:
     def take_rest(self, line):
         words = words_of(line)
         if words == [b'end']:
+            self.end_tasks()
             self.take = self.take_nothing
+        elif words[0] == b'user' and self.s.version == 2 and not (self.s.tasks or self.s.teaches or self.has_steps):
+            self.add_user(words)
         elif words[0] == b'task' and not self.s.teaches and not self.has_steps:
             self.add_task(words)
         elif words[0] == b'teach' and not self.has_steps:
             self.add_teach(words)
+            self.end_tasks()
         elif words[0] == b'step':
             self.has_steps = True
             step = self.step(words)
             if len(self.s.steps) >= MAX_STEPS:
                 raise Bad('Full')
+            self.end_tasks()
             self.s.steps.append(step)
         else:
             raise Bad('Shape')
@@ -167,8 +175,23 @@ class Reader:
     def take_nothing(self, line):
         raise Bad('After')
 
+    def end_tasks(self):
+        """Before a line that is no user line and no task line each user has to be named."""
+        if self.named < len(self.users):
+            raise Bad('User')
+
+    def add_user(self, words):
+        if len(words) != 11:
+            raise Bad('Shape')
+        got = [number(words[1], 0, 255)] + creds(words[2:])
+        if None in got:
+            raise Bad('Number')
+        if got[0] != len(self.users) or got[1:] in self.users:
+            raise Bad('User')
+        self.users.append(got[1:])
+
     def add_task(self, words):
-        if len(words) != 15:
+        if len(words) != (7 if self.s.version == 2 else 15):
             raise Bad('Shape')
         shape = policy_shape(words[5])
         if shape is None:
@@ -176,9 +199,8 @@ class Reader:
         got = [number(w, 1, 9999) for w in words[1:4]]
         got.append(number(words[4], 0, self.s.siblings - 1))
         got.append(policy_value(shape))
-        got += [number(w, 0, 65535) for w in words[6:12]]
-        got += [number(w, 0, 1) for w in words[12:15]]
-        if None in got:
+        owner = [number(words[6], 0, 255)] if self.s.version == 2 else creds(words[6:])
+        if None in got + owner:
             raise Bad('Number')
         pid, tgid, pgid = got[:3]
         if pid in self.groups:
@@ -187,8 +209,17 @@ class Reader:
             raise Bad('Leader')
         if len(self.s.tasks) >= self.s.limit:
             raise Bad('Full')
+        if self.s.version == 2:
+            owner = self.name_user(owner[0])
         self.groups[pid] = (tgid, pgid)
-        self.s.tasks.append(tuple(got))
+        self.s.tasks.append(tuple(got + owner))
+
+    def name_user(self, user):
+        """The nine values of the user that a task names."""
+        if user >= len(self.users) or user > self.named:
+            raise Bad('User')
+        self.named = max(self.named, user + 1)
+        return self.users[user]
 
     def add_teach(self, words):
         if len(words) != 4:
@@ -234,6 +265,11 @@ class Reader:
         if want == 'n':
             return number(word, 0, self.s.siblings - 1)
         return number(word, *want)
+
+
+def creds(words):
+    """The six ids and the three flags that these words spell, None for each that is out of its range."""
+    return [number(w, 0, 65535) for w in words[:6]] + [number(w, 0, 1) for w in words[6:]]
 
 
 def words_of(line):
@@ -1054,6 +1090,31 @@ def replay(data, stats=None, check=True, caps=GUARDS):
         return 2, b'', ('coresched: line %d: %s\n' % (bad.line, bad.kind)).encode()
     except BadGuard as bad:
         return 2, b'', ('coresched: line %d: guard %s\n' % (bad.line, bad.kind)).encode()
+
+
+def second_text(s):
+    """The text of a scenario in version 2. Its users are numbered in the order in which the tasks first have them."""
+    users, tasks = [], []
+    for pid, tgid, pgid, cpu, policy, *values in s.tasks:
+        if values not in users:
+            users.append(values)
+        name = policy[0] if policy[0] == 'stop' else '%s:%d' % policy
+        tasks.append('task %d %d %d %d %s %d' % (pid, tgid, pgid, cpu, name, users.index(values)))
+    lines = ['coresched 2', 'siblings %d' % s.siblings, 'limits %d %d %d' % (s.limit, s.cookies, s.top)]
+    lines += ['user %d %s' % (k, ' '.join(map(str, values))) for k, values in enumerate(users)] + tasks
+    lines += ['teach %d %d %d' % teach[1:] for teach in s.teaches]
+    lines += ['step ' + text for _, _, text in s.steps] + ['end']
+    return ''.join(line + '\n' for line in lines).encode()
+
+
+def upgrade(data):
+    """(status, standard output, standard error) of `coresched upgrade`."""
+    try:
+        return 0, second_text(read(data)), b''
+    except TooLong:
+        return 2, b'', b'coresched: input too long\n'
+    except Bad as bad:
+        return 2, b'', ('coresched: line %d: %s\n' % (bad.line, bad.kind)).encode()
 
 
 def main():

@@ -5,6 +5,13 @@ IDS = '1000 1000 1000 1000 1000 1000 0 1 1'
 EDGES = [1, 1, 2, 3, 7, 10, 999, 1000, 1024, 5999999, 6000000, 6000001, 99999999, 100000000, 100000001, 1000000000]
 
 
+def with_users(tasks):
+    """The user lines of these task lines, and those as they stand in version 2."""
+    users = list(dict.fromkeys(line.split(' ', 6)[6] for line in tasks))
+    said = ['user %d %s' % pair for pair in enumerate(users)]
+    return said + ['%s %d' % (line.rsplit(' ', 9)[0], users.index(line.split(' ', 6)[6])) for line in tasks]
+
+
 class Gen:
     """A scenario is made beside a room of the reference, so that events can aim at its state."""
 
@@ -40,7 +47,9 @@ class Gen:
 
     def head(self):
         r = self.r
-        n = self.n = r.choice([1, 2, 2, 2, 2, 3, 3, 3, 4, 4, 4, 5, 6, 7, 8, 8])
+        self.version = r.choice([1, 2])
+        sizes = [1, 2, 2, 2, 2, 3, 3, 3, 4, 4, 4, 5, 6, 7, 8, 8]
+        n = self.n = r.choice(sizes if self.version == 1 else sizes + [9, 10, 11, 12, 15, 16, 16, 16])
         if self.profile in ('snapshot', 'steal') and n == 1:
             n = self.n = r.choice([2, 3, 4])
         count = r.choice([0, 1, 2, 3, 3, 4, 4, 5, 5, 6, 8, 10, 14, 20])
@@ -53,8 +62,9 @@ class Gen:
         if self.profile == 'snapshot':
             cookies = max(cookies, 3)
         self.top = r.choice([8192, 8192, 8200, 8191 + r.randint(1, 10000), 65536, 2**63 - 1])
-        lines = ['coresched 1', 'siblings %d' % n, 'limits %d %d %d' % (limit, cookies, self.top)]
-        return lines + self.task_lines(count) + self.teach_lines()
+        lines = ['coresched %d' % self.version, 'siblings %d' % n, 'limits %d %d %d' % (limit, cookies, self.top)]
+        tasks = self.task_lines(count)
+        return lines + (tasks if self.version == 1 else with_users(tasks)) + self.teach_lines()
 
     def task_lines(self, count):
         r = self.r
@@ -228,7 +238,7 @@ class Gen:
         made = 0
         while made < self.steps:
             for text in steps or self.next_steps():
-                one = 'coresched 1\nsiblings %d\nlimits 1 1 8192\nstep %s\nend\n' % (self.n, text)
+                one = 'coresched %d\nsiblings %d\nlimits 1 1 8192\nstep %s\nend\n' % (self.version, self.n, text)
                 self.room.apply(reference.read(one.encode()).steps[0][1], text)
                 lines.append('step ' + text)
                 made += 1

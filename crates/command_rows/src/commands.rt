@@ -3,7 +3,7 @@
 
 ghost use Rattle.std.specs.Prelude.{◌<◌};
 
-use command_words::{Command, command_of, drill_seed, is_replay};
+use command_words::{Command, command_of, drill_seed, is_replay, is_upgrade};
 use core_state::CoreState;
 use cs_outside::{NoGate, PairGuard};
 use memory_outside::{MemSink, MemSource};
@@ -17,7 +17,7 @@ use std::sync::Wait;
 use std::thread::Threads;
 
 /// The lines that `INPUT` makes: of the entries, and of the report.
-const LINES: [&str; 17] = [
+pub(crate) const LINES: [&str; 17] = [
     "c0 wake 1: Woken 0\n",
     "c0 wake 2: Woken 0\n",
     "s0 turn: Plain 1 core 0 forced 0\n",
@@ -43,7 +43,7 @@ const OUTPUT_BYTES: u64 = 437;
 /// Expects that `run` without guards ends with this status over this text, and writes these bytes. The source gives
 /// this many bytes at once, and the sink takes this many. They fail at these calls, if they come to them. It returns
 /// how often each of them was called.
-fn expect_run<R: Threads + Wait + AllocGlobal + Sync + Abort>(
+pub(crate) fn expect_run<R: Threads + Wait + AllocGlobal + Sync + Abort>(
     rt: &R,
     texts: &[&str],
     text: &[u8],
@@ -164,13 +164,15 @@ fn sink_that_fails_at_each_call(rt: HostRuntime) {
 
 /// Lists of words that are no command's: other words, words too many and too few, an option, and seeds that are no
 /// numbers or too large.
-const OTHER_WORDS: [&'static [&'static str]; 15] = [
+const OTHER_WORDS: [&'static [&'static str]; 17] = [
     &[],
     &[""],
     &["run"],
     &["Replay"],
     &["replay", "x"],
     &["race", "replay"],
+    &["Upgrade"],
+    &["upgrade", "2"],
     &["help"],
     &["--help"],
     &["-"],
@@ -196,6 +198,7 @@ fn expect_command<R: AllocGlobal + Abort>(rt: &R, texts: &[&str], wanted: Option
     let words = words_of(alloc, texts).expect(rt, "room");
     assert!(rt; command_of(alloc, &words) == wanted);
     assert!(rt; is_replay(alloc, &words) == (wanted == Some(Command::Replay)));
+    assert!(rt; is_upgrade(alloc, &words) == (wanted == Some(Command::Upgrade)));
     let seed = match wanted {
         Some(Command::Drill { seed }) => Some(seed),
         _ => None,
@@ -215,9 +218,10 @@ fn other_words(rt: HostRuntime) {
 }
 
 /// Words, each with the command that they ask for.
-const COMMANDS: [(&'static [&'static str], Command); 5] = [
+const COMMANDS: [(&'static [&'static str], Command); 6] = [
     (&["replay"], Command::Replay),
     (&["race"], Command::Race),
+    (&["upgrade"], Command::Upgrade),
     (&["drill", "0"], Command::Drill { seed: 0 }),
     (&["drill", "7"], Command::Drill { seed: 7 }),
     (
@@ -247,8 +251,10 @@ fn expect_no_replay<R: AllocGlobal + Abort>(rt: &R, texts: &[&str]) {
 fn words_of_another_call(rt: HostRuntime) {
     expect_no_drill(&rt, &["replay"]);
     expect_no_drill(&rt, &["race"]);
+    expect_no_drill(&rt, &["upgrade"]);
     expect_no_replay(&rt, &["drill", "1"]);
     expect_no_replay(&rt, &["race"]);
+    expect_no_replay(&rt, &["upgrade"]);
 }
 
 /// Expects this status for an input of this many bytes, which is no scenario.

@@ -3,7 +3,7 @@ use Rattle.std.proofs.Common.{◌≡◌, ◌↔◌, ◌∙◌, sym, ℕ, true, f
 use Rattle.std.specs.Prelude.{◌≢◌, String}
 use Rattle.std.specs.declared.alloc.Global.{Global}
 use Rattle.command_words.specs.declared.command.Command.{Command}
-use Rattle.command_words.specs.declared.command.Command.TheVariants.{Replay, Race, Drill}
+use Rattle.command_words.specs.declared.command.Command.TheVariants.{Replay, Race, Upgrade, Drill}
 use Rattle.command_words.specs.Asks.{Asks}
 
 -- what is found in words: the command that they ask for, or nothing
@@ -37,3 +37,18 @@ replay_is_no_drill seed e = cc
 
 pub race_is_no_drill : (seed : ℕ) → Race ≢ Drill seed
 race_is_no_drill seed e = cc
+
+pub upgrade_is_no_replay : Upgrade ≢ Replay
+upgrade_is_no_replay e = cc
+
+pub upgrade_is_no_drill : (seed : ℕ) → Upgrade ≢ Drill seed
+upgrade_is_no_drill seed e = cc
+
+pub replay_is_no_upgrade : Replay ≢ Upgrade
+replay_is_no_upgrade e = cc
+
+pub race_is_no_upgrade : Race ≢ Upgrade
+race_is_no_upgrade e = cc
+
+pub drill_is_no_upgrade : (seed : ℕ) → Drill seed ≢ Upgrade
+drill_is_no_upgrade seed e = cc

@@ -1,7 +1,7 @@
 //! The commands, each by its words.
 
 ghost use Rattle.std.specs.Prelude.{◌≡◌, ◌↔◌, ℕ, IsTrue, Some, option_map};
-ghost use Rattle.command_words.specs.declared.command.Command.TheVariants.{Replay, Drill};
+ghost use Rattle.command_words.specs.declared.command.Command.TheVariants.{Replay, Upgrade, Drill};
 ghost use Rattle.command_words.specs.Asks.{Asks, HasSeed, words_of};
 ghost use Rattle.command_words.specs.Forms.{words_by};
 
@@ -16,18 +16,24 @@ pub enum Command {
     Replay,
     /// `race`: each actor of a scenario makes its script in a worker of its own.
     Race,
+    /// `upgrade`: a scenario of either version is written in version 2.
+    Upgrade,
     /// `drill` and a seed: the scenario that is generated from the seed is played.
     Drill { seed: u32 },
 }
 
 /// The forms of the commands.
-const FORMS: [CommandForm<'static>; 3] = [
+const FORMS: [CommandForm<'static>; 4] = [
     CommandForm {
         name: "replay",
         takes_value: false,
     },
     CommandForm {
         name: "race",
+        takes_value: false,
+    },
+    CommandForm {
+        name: "upgrade",
         takes_value: false,
     },
     CommandForm {
@@ -45,6 +51,7 @@ fn named(name: &str, seed: Option<&str>) -> Option<Command>
     match (name, seed) {
         ("replay", None) => Some(Command::Replay),
         ("race", None) => Some(Command::Race),
+        ("upgrade", None) => Some(Command::Upgrade),
         ("drill", Some(seed)) => canonical(seed).map(|seed| Command::Drill { seed }),
         _ => None,
     }
@@ -68,6 +75,20 @@ pub fn is_replay(alloc: Global, words: &[String]) -> bool
     match command_of(alloc, words) {
         Some(Command::Replay) => true,
         Some(Command::Race) => false,
+        Some(Command::Upgrade) => false,
+        Some(Command::Drill { .. }) => false,
+        None => false,
+    }
+}
+
+/// Whether the words ask for an upgrade.
+pub fn is_upgrade(alloc: Global, words: &[String]) -> bool
+    ensures { IsTrue result ↔ Asks Upgrade words.now }
+{
+    match command_of(alloc, words) {
+        Some(Command::Upgrade) => true,
+        Some(Command::Replay) => false,
+        Some(Command::Race) => false,
         Some(Command::Drill { .. }) => false,
         None => false,
     }
@@ -81,6 +102,7 @@ pub fn drill_seed(alloc: Global, words: &[String]) -> Option<u32>
         Some(Command::Drill { seed }) => Some(seed),
         Some(Command::Replay) => None,
         Some(Command::Race) => None,
+        Some(Command::Upgrade) => None,
         None => None,
     }
 }

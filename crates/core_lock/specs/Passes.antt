@@ -70,7 +70,7 @@ pub record MakesNext (before : PassState) (reply : Reply) (now : PassState) : Ty
 -- the opening of no lock, for a seat that is no pass's
 abbrev pub no_opening : Opening
 no_opening = record {
-  scenario = record { siblings = 1; task_limit = 1; cookie_limit = 1; user_top = 8192; tasks = []; teaches = []; steps = [] };
+  scenario = record { version = 1; siblings = 1; task_limit = 1; cookie_limit = 1; user_top = 8192; tasks = []; teaches = []; steps = [] };
   guards = 0;
 }
 

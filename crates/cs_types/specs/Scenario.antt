@@ -1,6 +1,6 @@
 -- Scenarios: the limits that each of them keeps, and the script of each actor.
 use Rattle.std.specs.List.{range_with_len}
-use Rattle.std.specs.Prelude.{◌≡◌, ◌+◌, ◌≢◌, ◌⊎◌, ℕ, ◌<◌, ◌≤◌, ◌^◌, ℤ, pos, negsuc, Bool, true, false, ◌==◌, List, length, map, filter, take, All, Any, AllPairs, slice_index_or}
+use Rattle.std.specs.Prelude.{◌≡◌, ◌+◌, ◌≢◌, ◌⊎◌, ℕ, ◌<◌, ◌≤◌, ◌^◌, ℤ, pos, negsuc, Bool, true, false, ◌==◌, ◌&&◌, not, if◌then◌else◌, List, [], ◌∷◌, length, map, filter, take, All, Any, AllPairs, slice_index_or}
 use Rattle.cs_types.specs.declared.task.Policy.{Policy}
 use Rattle.cs_types.specs.declared.task.Policy.TheVariants.{Stop, Deadline, Fifo, Rr, Fair}
 use Rattle.cs_types.specs.declared.task.Creds.{Creds}
@@ -32,6 +32,11 @@ IsPolicy (Deadline relative) = IsWithin 1 1000000000 relative
 IsPolicy (Fifo priority) = IsWithin 1 99 priority
 IsPolicy (Rr priority) = IsWithin 1 99 priority
 IsPolicy (Fair nice) = IsNice nice
+
+-- whether two flags are the same
+abbrev pub is_flag : Bool → Bool → Bool
+is_flag true b = b
+is_flag false b = not b
 
 -- a user or group id is from 0 to 65535
 pub record AreCreds (creds : Creds) : Type 0 where
@@ -134,10 +139,30 @@ pub record IsTeach (teach : Teach) : Type 0 where
   pub from : teach.from ≤ 65535
   pub to : teach.to ≤ 65535
 
--- Each teach carries the number of its line: three lines stand before the tasks, and a line for each task before the
--- first teach.
+-- whether two credentials are the same, each of the nine
+unfoldable pub is_user : Creds → Creds → Bool
+is_user a b =
+    (a.ruid == b.ruid) && (a.euid == b.euid) && (a.suid == b.suid) && (a.rgid == b.rgid) && (a.egid == b.egid) && (a.sgid == b.sgid)
+    && is_flag a.cap b.cap && is_flag a.mm b.mm && is_flag a.dumpable b.dumpable
+
+-- the different ones of these, in the order in which each comes first
+unfoldable pub different : List Creds → List Creds
+different [] = []
+different (user ∷ users) = user ∷ filter (λ other. not (is_user other user)) (different users)
+
+-- the users of these tasks: their credentials, each once, in the order in which the tasks first have them
+abbrev pub users_of : List TaskSpec → List Creds
+users_of tasks = different (map (λ task. task.creds) tasks)
+
+-- how many users have a line of their own in a text of this version: none in version 1, which writes each task's
+-- credentials in its own line
+abbrev pub user_lines : ℕ → List TaskSpec → ℕ
+user_lines version tasks = if version == 2 then length (users_of tasks) else 0
+
+-- Each teach carries the number of its line: three lines stand before those of the users and the tasks, and these before
+-- the first teach.
 abbrev pub AreNumbered : ℕ → List Teach → Type 0
-AreNumbered tasks teaches = map (λ teach. teach.line) teaches ≡ range_with_len (tasks + 4) (length teaches)
+AreNumbered before teaches = map (λ teach. teach.line) teaches ≡ range_with_len (before + 4) (length teaches)
 
 -- a step line, in a core with this number of siblings
 pub record IsStep (siblings : ℕ) (step : Step) : Type 0 where
@@ -146,6 +171,7 @@ pub record IsStep (siblings : ℕ) (step : Step) : Type 0 where
 
 -- what a scenario keeps whose core has at most this number of siblings
 pub record KeepsLimits (most : ℕ) (scenario : Scenario) : Type 0 where
+  pub version : IsWithin 1 2 scenario.version
   pub siblings : IsWithin 1 most scenario.siblings
   pub task_limit : IsWithin 1 256 scenario.task_limit
   pub cookie_limit : IsWithin 1 256 scenario.cookie_limit
@@ -155,7 +181,7 @@ pub record KeepsLimits (most : ℕ) (scenario : Scenario) : Type 0 where
   pub led : AreLed scenario.tasks
   pub few_tasks : length scenario.tasks ≤ scenario.task_limit
   pub teaches : All IsTeach scenario.teaches
-  pub numbered : AreNumbered (length scenario.tasks) scenario.teaches
+  pub numbered : AreNumbered (user_lines scenario.version scenario.tasks + length scenario.tasks) scenario.teaches
   pub few_teaches : length scenario.teaches ≤ 64
   pub steps : All (IsStep scenario.siblings) scenario.steps
   pub few_steps : length scenario.steps ≤ 100000
@@ -164,9 +190,13 @@ pub record KeepsLimits (most : ℕ) (scenario : Scenario) : Type 0 where
 abbrev pub IsPlayable : Scenario → Type 0
 IsPlayable scenario = KeepsLimits 16 scenario
 
--- a valid scenario, which a text can have: its core has 1 to 8 siblings
+-- the most siblings of a core in a text of this version
+abbrev pub most_siblings : ℕ → ℕ
+most_siblings version = if version == 2 then 16 else 8
+
+-- a valid scenario, which a text can have: in version 1 its core has at most 8 siblings
 abbrev pub IsValid : Scenario → Type 0
-IsValid scenario = KeepsLimits 8 scenario
+IsValid scenario = KeepsLimits (most_siblings scenario.version) scenario
 
 -- ---- scripts
 

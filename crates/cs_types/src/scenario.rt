@@ -23,7 +23,9 @@ pub struct Teach {
 /// What a scenario text says.
 #[derive(Drop)]
 pub struct Scenario {
-    /// The SMT siblings of the core, a count: 1 to 16 for a machine, and 1 to 8 in a text.
+    /// The version of its text, 1 or 2. No machine looks at it.
+    pub version: u8,
+    /// The SMT siblings of the core, a count: 1 to 16, and at most 8 in a text of version 1.
     pub siblings: u8,
     /// How many tasks may live at once, 1 to 256.
     pub task_limit: u16,

@@ -97,6 +97,21 @@ pub struct Creds {
     pub dumpable: bool,
 }
 
+impl Creds {
+    ghost use Rattle.cs_types.specs.Scenario.{is_user};
+
+    /// Whether both are those of one user: each of the nine is the same.
+    #[tactic(auto, unfolding(crate::specs::Scenario::is_user))]
+    pub fn are_same(&self, other: &Creds) -> bool
+        ensures { result ≡ is_user self.now other.now }
+    {
+        let users = self.ruid == other.ruid && self.euid == other.euid && self.suid == other.suid;
+        let groups = self.rgid == other.rgid && self.egid == other.egid && self.sgid == other.sgid;
+        let flags = self.cap == other.cap && self.mm == other.mm && self.dumpable == other.dumpable;
+        users && groups && flags
+    }
+}
+
 /// A task as its line in the scenario gives it, or a child as its caller's fork does.
 #[derive(Clone, Copy)]
 pub struct TaskSpec {

@@ -1,6 +1,8 @@
 //! What the command `explain` writes.
 
-use crate::tables::{HEAD, IN_HEADS, IN_SPACES, IN_STEPS, IN_TASKS, Mistake, TASK};
+use crate::tables::{
+    HEAD, HEAD_OF_SECOND, IN_HEADS, IN_SPACES, IN_STEPS, IN_TASKS, IN_USERS, Mistake, TASK,
+};
 use cs_outside::PairGuard;
 use memory_outside::MemSource;
 use row_inputs::{joined, sink_of, source_of, words_of};
@@ -87,6 +89,11 @@ fn explains_spaces(rt: HostRuntime) {
 #[test]
 fn explains_tasks(rt: HostRuntime) {
     expect_all(&rt, HEAD, &IN_TASKS);
+}
+
+#[test]
+fn explains_users(rt: HostRuntime) {
+    expect_all(&rt, HEAD_OF_SECOND, &IN_USERS);
 }
 
 #[test]

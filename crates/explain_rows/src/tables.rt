@@ -13,13 +13,13 @@ pub const TASK: &str = "task 2 2 2 1 fair:-20 7 7 7 7 7 7 1 0 0\n";
 pub type Mistake = (&'static str, u32, BadKind, &'static str, &'static str);
 
 /// In the first three lines, and at the end of a text.
-pub const IN_HEADS: [Mistake; 17] = [
+pub const IN_HEADS: [Mistake; 19] = [
     (
         "",
         1,
         BadKind::Cut,
         "",
-        "the text is empty; its first line is: coresched 1",
+        "the text is empty; its first line is: coresched 1, or coresched 2",
     ),
     (
         "coresched 1\nsiblings 2\nlimits 8 8 65536\n",
@@ -43,25 +43,39 @@ pub const IN_HEADS: [Mistake; 17] = [
         "word 1 is \"Coresched\"; it is spelled coresched",
     ),
     (
-        "coresched 2\nsiblings 2\n",
+        "coresched 1\nsiblings 2\nlimits 8 8 65536\nuser 0 0 0 0 0 0 0 0 1 1\nend\n",
+        4,
+        BadKind::Shape,
+        "user 0 0 0 0 0 0 0 0 1 1",
+        "word 1 is \"user\"; a user line stands in a text of version 2 alone",
+    ),
+    (
+        "coresched 2\nsiblings 17\nlimits 8 8 65536\nend\n",
+        2,
+        BadKind::Number,
+        "siblings 17",
+        "word 2: N is \"17\"; it has to be a number from 1 to 16",
+    ),
+    (
+        "coresched 3\nsiblings 2\n",
         1,
         BadKind::Shape,
-        "coresched 2",
-        "word 2: VERSION is \"2\"; it has to be 1",
+        "coresched 3",
+        "word 2: VERSION is \"3\"; it has to be 1 or 2",
     ),
     (
         "coresched\nsiblings 2\n",
         1,
         BadKind::Shape,
         "coresched",
-        "the line has 1 word; it takes 2: coresched 1",
+        "the line has 1 word; it takes 2: coresched VERSION",
     ),
     (
         "siblings 2\nlimits 8 8 65536\n",
         1,
         BadKind::Shape,
         "siblings 2",
-        "word 1 is \"siblings\"; line 1 is: coresched 1",
+        "word 1 is \"siblings\"; line 1 is: coresched VERSION",
     ),
     (
         "# two guests\ncoresched 1\n",
@@ -529,5 +543,96 @@ pub const IN_TASKS: [Mistake; 14] = [
         BadKind::Shape,
         "task 2 2 2 0 stop 0 0 0 0 0 0 0 1 1",
         "word 1 is \"task\"; no task line stands after a teach line or a step line",
+    ),
+];
+
+/// The three lines that a text of version 2 begins with.
+pub const HEAD_OF_SECOND: &str = "coresched 2\nsiblings 16\nlimits 8 8 65536\n";
+
+/// In texts of version 2, behind those.
+pub const IN_USERS: [Mistake; 12] = [
+    (
+        "user 1 0 0 0 0 0 0 0 1 1\nend\n",
+        4,
+        BadKind::User,
+        "user 1 0 0 0 0 0 0 0 1 1",
+        "word 2: U is \"1\"; it has to be 0, since users are numbered from 0 on",
+    ),
+    (
+        "user 0 0 0 0 0 0 0 0 1 1\nuser 1 0 0 0 0 0 0 0 1 1\nend\n",
+        5,
+        BadKind::User,
+        "user 1 0 0 0 0 0 0 0 1 1",
+        "the user of line 4 has the same nine values; a user is written once",
+    ),
+    (
+        "user 0 0 0 0 0 0 0 0 1 1\nuser 0 0 0 0 0 0 0 0 1 1\nend\n",
+        5,
+        BadKind::User,
+        "user 0 0 0 0 0 0 0 0 1 1",
+        "word 2: U is \"0\"; it has to be 1, since users are numbered from 0 on",
+    ),
+    (
+        "task 1 1 1 0 stop 0\nend\n",
+        4,
+        BadKind::User,
+        "task 1 1 1 0 stop 0",
+        "word 7: U is \"0\"; there are no users",
+    ),
+    (
+        "user 0 0 0 0 0 0 0 0 1 1\nuser 1 7 7 7 7 7 7 1 0 0\ntask 1 1 1 0 stop 2\nend\n",
+        6,
+        BadKind::User,
+        "task 1 1 1 0 stop 2",
+        "word 7: U is \"2\"; the users are 0 to 1",
+    ),
+    (
+        "user 0 0 0 0 0 0 0 0 1 1\nuser 1 7 7 7 7 7 7 1 0 0\ntask 1 1 1 0 stop 1\nend\n",
+        6,
+        BadKind::User,
+        "task 1 1 1 0 stop 1",
+        "word 7: U is \"1\"; tasks name users in the order of their numbers, and the next is 0",
+    ),
+    (
+        "user 0 0 0 0 0 0 0 0 1 1\nuser 1 7 7 7 7 7 7 1 0 0\ntask 1 1 1 0 stop 0\nstep s0 turn\nend\n",
+        7,
+        BadKind::User,
+        "step s0 turn",
+        "the task lines end before this line, and none names user 1, of line 5",
+    ),
+    (
+        "user 0 0 0 0 0 0 0 0 1 1\ntask 1 1 1 0 stop 0\nuser 1 7 7 7 7 7 7 1 0 0\nend\n",
+        6,
+        BadKind::Shape,
+        "user 1 7 7 7 7 7 7 1 0 0",
+        "word 1 is \"user\"; no user line stands after a task line, a teach line or a step line",
+    ),
+    (
+        "user 0 0 0 0 0 0 0 0 1 1\ntask 1 1 1 0 stop 0 0\nend\n",
+        5,
+        BadKind::Shape,
+        "task 1 1 1 0 stop 0 0",
+        "the line has 8 words; it takes 7: task PID TGID PGID CPU POLICY U",
+    ),
+    (
+        "user 0 0 0 0 0 0 0 0 1\nend\n",
+        4,
+        BadKind::Shape,
+        "user 0 0 0 0 0 0 0 0 1",
+        "the line has 10 words; it takes 11: user U RUID EUID SUID RGID EGID SGID CAP MM DUMP",
+    ),
+    (
+        "user 256 0 0 0 0 0 0 0 1 1\nend\n",
+        4,
+        BadKind::Number,
+        "user 256 0 0 0 0 0 0 0 1 1",
+        "word 2: U is \"256\"; it has to be a number from 0 to 255",
+    ),
+    (
+        "user 0 0 0 0 0 0 0 0 1 1\ntask 1 1 1 16 stop 0\nend\n",
+        5,
+        BadKind::Number,
+        "task 1 1 1 16 stop 0",
+        "word 5: CPU is \"16\"; it has to be a number from 0 to 15, since line 2 says siblings 16",
     ),
 ];

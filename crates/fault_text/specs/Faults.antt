@@ -2,7 +2,7 @@
 -- colon, a space and this line.
 use Rattle.std.specs.Prelude.{◌≡◌, ℕ, List, [], ◌∷◌, ◌++◌, codes, decimal, Option, Some, None}
 use Rattle.scenario_text.specs.declared.fault.BadKind.{BadKind}
-use Rattle.scenario_text.specs.declared.fault.BadKind.TheVariants.{After, Cut, Shape, Number, Twice, Leader, Full}
+use Rattle.scenario_text.specs.declared.fault.BadKind.TheVariants.{After, Cut, Shape, Number, Twice, Leader, Full, User}
 use Rattle.scenario_input.specs.declared.stop.GuardKind.{GuardKind}
 use Rattle.scenario_input.specs.declared.stop.GuardKind.TheVariants as guard
 use Rattle.scenario_input.specs.declared.status.Status.{Status}
@@ -16,6 +16,7 @@ kind_text Number = codes "Number"
 kind_text Twice = codes "Twice"
 kind_text Leader = codes "Leader"
 kind_text Full = codes "Full"
+kind_text User = codes "User"
 
 abbrev pub guard_text : GuardKind → List ℕ
 guard_text guard.NoGuard = codes "guard NoGuard"

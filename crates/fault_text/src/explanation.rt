@@ -12,6 +12,7 @@ use crate::earlier::{
 use crate::lines::line_at;
 use crate::sentence::{Piece, Sentence};
 use crate::shape::{explain_number, explain_shape};
+use crate::user::explain_user;
 use cs_outside::{Failed, Sink, write_all};
 use scenario_input::{GuardKind, INPUT_BYTES, Stop};
 use scenario_text::{BadKind, Line};
@@ -62,6 +63,7 @@ fn kind_text(kind: BadKind) -> &'static str
         BadKind::Twice => "Twice",
         BadKind::Leader => "Leader",
         BadKind::Full => "Full",
+        BadKind::User => "User",
     }
 }
 
@@ -104,7 +106,7 @@ fn explain_cut(said: &mut Sentence, text: &[u8], line: &[u8]) {
     said.text(if !line.is_empty() {
         "no line feed ends the line, which is the last\n"
     } else if text.is_empty() {
-        "the text is empty; its first line is: coresched 1\n"
+        "the text is empty; its first line is: coresched 1, or coresched 2\n"
     } else {
         "the text ends before this line; its last line is: end\n"
     });
@@ -125,6 +127,7 @@ fn line_explained(text: &[u8], number: u32, kind: BadKind) -> Sentence {
         BadKind::Twice => explain_twice(&mut said, text, line, number),
         BadKind::Leader => explain_unled(&mut said, text, line, number),
         BadKind::Full => explain_full(&mut said, text, line),
+        BadKind::User => explain_user(&mut said, text, line, number),
     }
     said
 }

@@ -14,6 +14,7 @@ mod shape;
 mod spaces;
 mod step;
 mod table;
+mod user;
 
 pub use counts::counts_line;
 pub use explanation::{Explanation, stop_explained};

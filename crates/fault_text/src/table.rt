@@ -5,7 +5,8 @@
 use scenario_text::limits::{
     LEAST_TOP, MOST_ADVANCE, MOST_CALLER, MOST_DEADLINE, MOST_GUARD, MOST_ID, MOST_LIMIT,
     MOST_NAMED_PID, MOST_NICE_ABOVE, MOST_NICE_BELOW, MOST_PID, MOST_PRIORITY,
-    MOST_SIBLINGS_IN_TEXT, MOST_TARGET_ABOVE, MOST_TARGET_BELOW, MOST_TOP,
+    MOST_SIBLINGS_IN_FIRST, MOST_SIBLINGS_IN_SECOND, MOST_TARGET_ABOVE, MOST_TARGET_BELOW,
+    MOST_TOP, MOST_USER,
 };
 
 /// The numbers that may stand in a place.
@@ -103,6 +104,41 @@ macro_rules! form {
     };
 }
 
+/// A form that takes these fields, and after them credentials.
+macro_rules! with_creds {
+    ($name:expr $(, $field:expr)*) => {
+        form!(
+            $name,
+            $($field,)*
+            id!("RUID"),
+            id!("EUID"),
+            id!("SUID"),
+            id!("RGID"),
+            id!("EGID"),
+            id!("SGID"),
+            flag!("CAP"),
+            flag!("MM"),
+            flag!("DUMP")
+        )
+    };
+}
+
+/// The first three lines, each of which has a form of its own, where a core has at most so many siblings.
+macro_rules! head {
+    ($most_siblings:expr) => {
+        [
+            form!("coresched", VERSION),
+            form!("siblings", number!("N", 1, $most_siblings)),
+            form!(
+                "limits",
+                number!("TASKS", 1, MOST_LIMIT),
+                number!("COOKIES", 1, MOST_LIMIT),
+                number!("TOP", LEAST_TOP, MOST_TOP)
+            ),
+        ]
+    };
+}
+
 /// A policy with a number, which is called so and is of this range.
 macro_rules! policy {
     ($mark:expr, $number:expr, $says:expr, $range:expr) => {
@@ -157,7 +193,7 @@ const POLICY: Field = Field {
 
 const VERSION: Field = Field {
     name: "VERSION",
-    kind: Kind::OneOf(&["1"]),
+    kind: Kind::OneOf(&["1", "2"]),
 };
 
 /// What a child is.
@@ -175,45 +211,56 @@ const TARGET: Field = Field {
     }),
 };
 
-/// The first three lines, each of which has a form of its own.
-pub(crate) const HEAD: &'static [Form] = &[
-    form!("coresched", VERSION),
-    form!("siblings", number!("N", 1, MOST_SIBLINGS_IN_TEXT)),
-    form!(
-        "limits",
-        number!("TASKS", 1, MOST_LIMIT),
-        number!("COOKIES", 1, MOST_LIMIT),
-        number!("TOP", LEAST_TOP, MOST_TOP)
-    ),
-];
+/// A user, by its number.
+const USER: Field = number!("U", 0, MOST_USER);
+
+const PID: Field = number!("PID", 1, MOST_PID);
+
+const TGID: Field = number!("TGID", 1, MOST_PID);
+
+const PGID: Field = number!("PGID", 1, MOST_PID);
+
+const CPU: Field = sibling!("CPU");
 
 /// The first word of a step line. What it takes is told by its actor and its event, which have
 /// forms of their own.
 pub(crate) const STEP: &str = "step";
 
-/// The other lines, in the order in which they may stand.
-pub(crate) const BODY: &'static [Form] = &[
-    form!(
-        "task",
-        number!("PID", 1, MOST_PID),
-        number!("TGID", 1, MOST_PID),
-        number!("PGID", 1, MOST_PID),
-        sibling!("CPU"),
-        POLICY,
-        id!("RUID"),
-        id!("EUID"),
-        id!("SUID"),
-        id!("RGID"),
-        id!("EGID"),
-        id!("SGID"),
-        flag!("CAP"),
-        flag!("MM"),
-        flag!("DUMP")
-    ),
-    form!("teach", GUARD, id!("FROM"), id!("TO")),
-    form!(STEP),
-    form!("end"),
-];
+const TEACH: Form = form!("teach", GUARD, id!("FROM"), id!("TO"));
+
+/// The lines of a version of scenarios.
+#[derive(Clone, Copy)]
+pub(crate) struct Version {
+    /// The first three lines, each of which has a form of its own.
+    pub head: [Form; 3],
+    /// The other lines, in the order in which they may stand.
+    pub body: &'static [Form],
+    /// The most siblings of a core.
+    pub most_siblings: u8,
+}
+
+pub(crate) const FIRST: Version = Version {
+    head: head!(MOST_SIBLINGS_IN_FIRST),
+    body: &[
+        with_creds!("task", PID, TGID, PGID, CPU, POLICY),
+        TEACH,
+        form!(STEP),
+        form!("end"),
+    ],
+    most_siblings: MOST_SIBLINGS_IN_FIRST,
+};
+
+pub(crate) const SECOND: Version = Version {
+    head: head!(MOST_SIBLINGS_IN_SECOND),
+    body: &[
+        with_creds!("user", USER),
+        form!("task", PID, TGID, PGID, CPU, POLICY, USER),
+        TEACH,
+        form!(STEP),
+        form!("end"),
+    ],
+    most_siblings: MOST_SIBLINGS_IN_SECOND,
+};
 
 /// Those who make steps: what their names begin with, which number follows, and what they do.
 #[derive(Clone, Copy)]

@@ -2,7 +2,8 @@
 //! its first bad line and kind, and the limit of steps on both sides.
 
 use crate::tables::{
-    HEAD, POLICIES, REFUSED_STEPS, REFUSED_TASKS, REFUSED_TEACHES, REFUSED_TEXTS, Refused, STEPS,
+    HEAD, HEAD_OF_SECOND, POLICIES, READ_OF_SECOND, REFUSED_STEPS, REFUSED_TASKS, REFUSED_TEACHES,
+    REFUSED_TEXTS, REFUSED_USERS, Refused, STEPS,
 };
 use cs_types::{Scenario, TaskSpec};
 use row_inputs::{INPUT, joined};
@@ -27,6 +28,7 @@ fn reads_a_scenario(rt: HostRuntime) {
         matches!(
             &scenario,
             Scenario {
+                version: 1,
                 siblings: 2,
                 task_limit: 8,
                 cookie_limit: 8,
@@ -109,6 +111,19 @@ fn refuses_other_texts(rt: HostRuntime) {
     expect_refused(&rt, HEAD, &REFUSED_STEPS);
     expect_refused(&rt, HEAD, &REFUSED_TASKS);
     expect_refused(&rt, HEAD, &REFUSED_TEACHES);
+}
+
+#[test]
+fn refuses_other_texts_of_version_2(rt: HostRuntime) {
+    expect_refused(&rt, HEAD_OF_SECOND, &REFUSED_USERS);
+}
+
+#[test]
+fn reads_texts_of_version_2(rt: HostRuntime) {
+    for (rest, tasks, steps) in READ_OF_SECOND {
+        let text = text_of(&rt, HEAD_OF_SECOND, rest);
+        assert!(rt; counts_of(&rt, &text, rest) == (tasks, steps));
+    }
 }
 
 /// A text of a head, one task and this line `count` times.

@@ -11,14 +11,32 @@ pub const HEAD: &str =
 pub type Refused = (&'static str, u32, BadKind, &'static str);
 
 /// Texts that are no scenario's.
-pub const REFUSED_TEXTS: [Refused; 15] = [
+pub const REFUSED_TEXTS: [Refused; 18] = [
     ("some line", 1, BadKind::Cut, ""),
     ("a whole first line", 1, BadKind::Cut, "coresched 1"),
     (
         "the version",
         1,
         BadKind::Shape,
-        "coresched 2\nsiblings 2\nlimits 8 8 65536\nend\n",
+        "coresched 3\nsiblings 2\nlimits 8 8 65536\nend\n",
+    ),
+    (
+        "users in version 2 alone",
+        4,
+        BadKind::Shape,
+        "coresched 1\nsiblings 2\nlimits 8 8 65536\nuser 0 0 0 0 0 0 0 0 1 1\nend\n",
+    ),
+    (
+        "the greatest number of siblings of version 2",
+        2,
+        BadKind::Number,
+        "coresched 2\nsiblings 17\nlimits 8 8 65536\nend\n",
+    ),
+    (
+        "the limit of tasks before their users",
+        6,
+        BadKind::Full,
+        "coresched 2\nsiblings 2\nlimits 1 8 65536\nuser 0 0 0 0 0 0 0 0 1 1\ntask 1 1 1 0 stop 0\ntask 2 2 2 0 stop 5\nend\n",
     ),
     (
         "the first line's case",
@@ -610,6 +628,219 @@ pub const REFUSED_TEACHES: [Refused; 11] = [
         5,
         BadKind::Shape,
         "step c0 unload\nend\n",
+    ),
+];
+
+/// The three lines that a text of version 2 begins with.
+pub const HEAD_OF_SECOND: &str = "coresched 2\nsiblings 16\nlimits 8 8 65536\n";
+
+/// Texts of version 2 that are refused after those.
+pub const REFUSED_USERS: [Refused; 31] = [
+    (
+        "the least user",
+        4,
+        BadKind::User,
+        "user 1 0 0 0 0 0 0 0 1 1\nend\n",
+    ),
+    (
+        "users in the order of their numbers",
+        5,
+        BadKind::User,
+        "user 0 0 0 0 0 0 0 0 1 1\nuser 0 7 7 7 7 7 7 1 0 0\nend\n",
+    ),
+    (
+        "no number left out",
+        5,
+        BadKind::User,
+        "user 0 0 0 0 0 0 0 0 1 1\nuser 2 7 7 7 7 7 7 1 0 0\nend\n",
+    ),
+    (
+        "each user once",
+        5,
+        BadKind::User,
+        "user 0 0 0 0 0 0 0 0 1 1\nuser 1 0 0 0 0 0 0 0 1 1\nend\n",
+    ),
+    (
+        "each user once, however far apart",
+        6,
+        BadKind::User,
+        "user 0 0 0 0 0 0 0 0 1 1\nuser 1 7 7 7 7 7 7 1 0 0\nuser 2 0 0 0 0 0 0 0 1 1\nend\n",
+    ),
+    (
+        "the greatest user",
+        4,
+        BadKind::Number,
+        "user 256 0 0 0 0 0 0 0 1 1\nend\n",
+    ),
+    (
+        "no leading 0 of a user",
+        4,
+        BadKind::Number,
+        "user 00 0 0 0 0 0 0 0 1 1\nend\n",
+    ),
+    (
+        "the greatest id of a user",
+        4,
+        BadKind::Number,
+        "user 5 65536 0 0 0 0 0 0 1 1\nend\n",
+    ),
+    (
+        "the greatest flag of a user",
+        4,
+        BadKind::Number,
+        "user 0 0 0 0 0 0 0 2 1 1\nend\n",
+    ),
+    (
+        "all words of a user",
+        4,
+        BadKind::Shape,
+        "user 0 0 0 0 0 0 0 0 1\nend\n",
+    ),
+    (
+        "no twelfth word of a user",
+        4,
+        BadKind::Shape,
+        "user 0 0 0 0 0 0 0 0 1 1 0\nend\n",
+    ),
+    (
+        "users before tasks",
+        6,
+        BadKind::Shape,
+        "user 0 0 0 0 0 0 0 0 1 1\ntask 1 1 1 0 stop 0\nuser 1 7 7 7 7 7 7 1 0 0\nend\n",
+    ),
+    (
+        "a user that is there",
+        4,
+        BadKind::User,
+        "task 1 1 1 0 stop 0\nend\n",
+    ),
+    (
+        "a user that is there, beside others",
+        5,
+        BadKind::User,
+        "user 0 0 0 0 0 0 0 0 1 1\ntask 1 1 1 0 stop 1\nend\n",
+    ),
+    (
+        "users named in the order of their numbers",
+        6,
+        BadKind::User,
+        "user 0 0 0 0 0 0 0 0 1 1\nuser 1 7 7 7 7 7 7 1 0 0\ntask 1 1 1 0 stop 1\nend\n",
+    ),
+    (
+        "the greatest user of a task",
+        5,
+        BadKind::Number,
+        "user 0 0 0 0 0 0 0 0 1 1\ntask 1 1 1 0 stop 256\nend\n",
+    ),
+    (
+        "no leading 0 of a task's user",
+        5,
+        BadKind::Number,
+        "user 0 0 0 0 0 0 0 0 1 1\ntask 1 1 1 0 stop 00\nend\n",
+    ),
+    (
+        "a user of a task",
+        5,
+        BadKind::Shape,
+        "user 0 0 0 0 0 0 0 0 1 1\ntask 1 1 1 0 stop\nend\n",
+    ),
+    (
+        "one user of a task",
+        5,
+        BadKind::Shape,
+        "user 0 0 0 0 0 0 0 0 1 1\ntask 1 1 1 0 stop 0 0\nend\n",
+    ),
+    (
+        "credentials in user lines alone",
+        5,
+        BadKind::Shape,
+        "user 0 0 0 0 0 0 0 0 1 1\ntask 1 1 1 0 stop 0 0 0 0 0 0 0 1 1\nend\n",
+    ),
+    (
+        "a task of each user, before the end",
+        5,
+        BadKind::User,
+        "user 0 0 0 0 0 0 0 0 1 1\nend\n",
+    ),
+    (
+        "a task of each user, before teach lines",
+        7,
+        BadKind::User,
+        "user 0 0 0 0 0 0 0 0 1 1\nuser 1 7 7 7 7 7 7 1 0 0\ntask 1 1 1 0 stop 0\nteach 0 0 0\nend\n",
+    ),
+    (
+        "a task of each user, before steps",
+        7,
+        BadKind::User,
+        "user 0 0 0 0 0 0 0 0 1 1\nuser 1 7 7 7 7 7 7 1 0 0\ntask 1 1 1 0 stop 0\nstep s0 turn\nend\n",
+    ),
+    (
+        "a whole line before the users",
+        5,
+        BadKind::Cut,
+        "user 0 0 0 0 0 0 0 0 1 1\nend",
+    ),
+    (
+        "a form before the users",
+        5,
+        BadKind::Shape,
+        "user 0 0 0 0 0 0 0 0 1 1\npause\nend\n",
+    ),
+    (
+        "a number before the users",
+        5,
+        BadKind::Number,
+        "user 0 0 0 0 0 0 0 0 1 1\nstep c0 wake 0\nend\n",
+    ),
+    (
+        "distinct pids before the users",
+        6,
+        BadKind::Twice,
+        "user 0 0 0 0 0 0 0 0 1 1\ntask 1 1 1 0 stop 0\ntask 1 1 1 0 stop 5\nend\n",
+    ),
+    (
+        "an earlier leader before the users",
+        6,
+        BadKind::Leader,
+        "user 0 0 0 0 0 0 0 0 1 1\ntask 1 1 1 0 stop 0\ntask 2 3 3 0 stop 5\nend\n",
+    ),
+    (
+        "the siblings of version 2",
+        6,
+        BadKind::Number,
+        "user 0 0 0 0 0 0 0 0 1 1\ntask 1 1 1 0 stop 0\nstep s16 turn\nend\n",
+    ),
+    (
+        "no leading 0 of a sibling",
+        6,
+        BadKind::Number,
+        "user 0 0 0 0 0 0 0 0 1 1\ntask 1 1 1 0 stop 0\nstep s01 turn\nend\n",
+    ),
+    (
+        "the sibling of an event in version 2",
+        6,
+        BadKind::Number,
+        "user 0 0 0 0 0 0 0 0 1 1\ntask 1 1 1 0 stop 0\nstep c0 offline 16\nend\n",
+    ),
+];
+
+/// Texts that are read after those, each with how many tasks and steps it has.
+pub const READ_OF_SECOND: [(&str, usize, usize); 4] = [
+    ("end\n", 0, 0),
+    (
+        "user 0 0 0 0 0 0 0 0 1 1\nuser 1 0 0 0 0 0 0 0 1 0\ntask 1 1 1 0 stop 0\ntask 2 2 2 15 stop 1\nend\n",
+        2,
+        0,
+    ),
+    (
+        "user 0 0 0 0 0 0 0 0 1 1\nuser 1 7 7 7 7 7 7 1 0 0\ntask 1 1 1 0 stop 0\ntask 2 2 2 0 stop 0\ntask 3 3 3 0 stop 1\ntask 4 4 4 0 stop 0\nteach 0 0 0\nend\n",
+        4,
+        0,
+    ),
+    (
+        "step s0 turn\nstep s9 tick\nstep s10 block\nstep s15 exit\nstep c7 offline 10\nstep c0 online 15\nend\n",
+        0,
+        6,
     ),
 ];
 

@@ -132,6 +132,7 @@ drill_valid : (tasks : List TaskSpec) (steps : List Step) → All (IsTask 4) tas
     All (IsStep 4) steps → length steps ≡ 20000 → IsValid (drill_of tasks steps)
 drill_valid tasks steps each apart led few all many =
     record {
+      version = (omega arith, omega arith);
       siblings = (omega arith, omega arith);
       task_limit = (omega arith, omega arith);
       cookie_limit = (omega arith, omega arith);

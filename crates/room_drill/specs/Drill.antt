@@ -113,10 +113,11 @@ drawn_step = made (λ event. record { actor = actor_of event; event = event }) d
 abbrev pub drill_steps : ℕ
 drill_steps = 20000
 
--- the scenario of these tasks and steps: 4 siblings, and no guard is taught
+-- the scenario of these tasks and steps: of version 1, with 4 siblings, and no guard is taught
 abbrev pub drill_of : List TaskSpec → List Step → Scenario
 drill_of tasks steps =
     record {
+      version = 1;
       siblings = 4;
       task_limit = 64;
       cookie_limit = 16;

@@ -49,6 +49,7 @@ pub fn generate(alloc: Global, seed: u32) -> Result<Scenario, OutOfMemory>
     let tasks = tasks(alloc, TASKS, &mut generator)?;
     let steps = steps(alloc, STEPS, &mut generator)?;
     Ok(Scenario {
+        version: 1,
         siblings: SIBLINGS as u8,
         task_limit: 64,
         cookie_limit: 16,

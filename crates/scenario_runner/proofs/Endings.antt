@@ -72,7 +72,7 @@ same_scenario scenario other input (Some left) text valid reads =
     reads.alone scenario valid (told ∙ ap (λ (rest : List ℕ). scenario_text other ++ rest) reads.read.1 ∙ append-nil (scenario_text other))
 
 -- An input with a bad line was not read as a scenario's.
-not_bad : (other : Scenario) (bytes : List ℕ) (line : ℕ) (kind : BadKind) (input left : Option (List ℕ)) → input ≡ Some bytes → IsFirstBad (lines_in bytes) line kind → ¬ (Reads other input left)
+pub not_bad : (other : Scenario) (bytes : List ℕ) (line : ℕ) (kind : BadKind) (input left : Option (List ℕ)) → input ≡ Some bytes → IsFirstBad (lines_in bytes) line kind → ¬ (Reads other input left)
 not_bad other bytes line kind input left told bad reads =
     none_of bytes line kind bad other (record { valid = reads.valid; text = sym (read_bytes input left bytes (scenario_text other) told reads.read) })
 

@@ -7,3 +7,4 @@ mod Totals
 mod Outputs
 pub mod Openings
 pub mod Writes
+pub mod Upgrading

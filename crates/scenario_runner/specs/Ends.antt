@@ -13,7 +13,8 @@ use Rattle.scenario_input.specs.Teaching.{BadTeach, first_bad}
 use Rattle.cs_types.specs.Room.{Opening}
 use Rattle.cs_types.specs.History.{History}
 use Rattle.command_words.specs.declared.command.Command.{Command}
-use Rattle.command_words.specs.declared.command.Command.TheVariants.{Replay, Race, Drill}
+use Rattle.command_words.specs.declared.command.Command.TheVariants.{Replay, Race, Upgrade, Drill}
+use Rattle.scenario_runner.specs.Upgrades.{Upgrades, UpgradeBreaksOff}
 use Rattle.scenario_runner.specs.Outcomes.{opened_with, IsReplayHistory, IsRaceHistory, Outputs, BreaksOff, DrillOutputs, DrillBreaksOff}
 
 -- a device before and after a call: what is known of its bytes, and the count of its faults
@@ -105,9 +106,47 @@ pub record EndsAsDrill {K : Type 0} (seed : ℕ) (sink : Used K) (status : Statu
   -- without memory nothing was written
   pub unwritten : status ≡ OutOfMemory → sink.after ≡ sink.before
 
+-- How the command `upgrade` ends, over a source and a sink. When memory runs out is left open.
+pub record EndsAsUpgrade {S K : Type 0} (source : Used S) (sink : Used K) (status : Status) : Type 0 where
+  -- if it is done, what was read is the text of a scenario, and what was written is its text in version 2
+  pub done : status ≡ Done → (scenario : Scenario) ×
+      Upgrades scenario (source.bytes source.before) (source.bytes source.after) (sink.bytes sink.before) (sink.bytes sink.after)
+  -- no fault of the source was counted, unless a read fault is the answer, and none of the sink, unless a write fault
+  -- is
+  pub faultless : (status ≢ ReadFault → IsFaultless source) × (status ≢ WriteFault → IsFaultless sink)
+  -- its own words are never bad
+  pub good_words : status ≢ BadWords
+  -- only if the source failed
+  pub read_fault : status ≡ ReadFault → FaultsRose source
+  -- exactly if more bytes were read than an input may have, of a source whose bytes are known
+  pub too_long : IfSome (source.bytes source.before) (λ _.
+      (status ≡ TooLong) ↔ (input_limit < count_read (source.bytes source.before) (source.bytes source.after)))
+  -- no more is read than one byte beyond that
+  pub most : IfSome (source.bytes source.before) (λ _.
+      count_read (source.bytes source.before) (source.bytes source.after) ≤ input_limit + 1)
+  -- only if the input was read to its end and no valid scenario has that text, with its first bad line and kind
+  pub bad_scenario : (line : ℕ) (kind : BadKind) → status ≡ BadScenario line kind →
+      IsBad line kind (source.bytes source.before) (source.bytes source.after)
+  -- no guard is handed in, and none is missed
+  pub no_guard : (line : ℕ) (kind : GuardKind) → status ≢ BadGuard line kind
+  -- only if the sink failed, and then a prefix of the text was written
+  pub write_fault : status ≡ WriteFault → FaultsRose sink × ((scenario : Scenario) ×
+      UpgradeBreaksOff scenario (source.bytes source.before) (source.bytes source.after) (sink.bytes sink.before) (sink.bytes sink.after))
+  -- nothing was written unless it is done or the sink failed
+  pub unwritten : status ≢ Done → status ≢ WriteFault → sink.after ≡ sink.before
+  -- it gives up on no valid scenario, if nothing failed
+  pub complete : (scenario : Scenario) → IsValid scenario →
+      source.bytes source.before ≡ Some (scenario_text scenario) → length (scenario_text scenario) ≤ input_limit →
+      IsFaultless source → IsFaultless sink → (status ≡ Done) ⊎ (status ≡ OutOfMemory)
+  -- if the input has a first bad line, the status names that and its first kind
+  pub told_line : (bytes : List ℕ) (line : ℕ) (kind : BadKind) →
+      source.bytes source.before ≡ Some bytes → length bytes ≤ input_limit → IsFirstBad (lines_in bytes) line kind → IsFaultless source →
+      (status ≡ BadScenario line kind) ⊎ (status ≡ OutOfMemory)
+
 -- how each command ends
 abbrev pub EndsBy : {S K : Type 0} → Command → List ℕ → Used S → Used K → Status → Type 0
 EndsBy Replay caps source sink status = EndsAsReplay caps source sink status
 EndsBy Race caps source sink status = EndsAsRace caps source sink status
+EndsBy Upgrade caps source sink status = EndsAsUpgrade source sink status
 -- a drill reads nothing
 EndsBy (Drill seed) caps source sink status = EndsAsDrill seed sink status × (source.after ≡ source.before)

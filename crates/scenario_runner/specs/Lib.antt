@@ -1,3 +1,4 @@
 pub mod Outcomes
+pub mod Upgrades
 pub mod Ends
 pub mod Written

@@ -2,14 +2,15 @@
 
 ghost use Rattle.std.specs.Prelude.{◌≡◌, ◌↔◌, ℕ, ◌-◌, ◌^◌, ◌<◌, map};
 ghost use Rattle.command_words.specs.declared.command.Command.{Command as SomeCommand};
-ghost use Rattle.command_words.specs.declared.command.Command.TheVariants.{Replay, Drill};
+ghost use Rattle.command_words.specs.declared.command.Command.TheVariants.{Replay, Upgrade, Drill};
 ghost use Rattle.command_words.specs.Asks.{Asks};
 ghost use Rattle.ptrace_check.specs.Guards.{AreFresh};
-ghost use Rattle.scenario_runner.specs.Ends.{EndsAsReplay, EndsAsDrill, EndsBy};
+ghost use Rattle.scenario_runner.specs.Ends.{EndsAsReplay, EndsAsUpgrade, EndsAsDrill, EndsBy};
 
 use crate::drilled::drilled;
 use crate::played::{raced, replayed};
-use command_words::{Command, command_of, drill_seed, is_replay};
+use crate::upgraded::upgraded;
+use command_words::{Command, command_of, drill_seed, is_replay, is_upgrade};
 use cs_outside::{Gate, Guard, Sink, Source};
 use cs_types::FromScenario;
 use ptrace_check::Guards;
@@ -52,6 +53,36 @@ pub fn replay<R: FromScenario<Guards<G>>, S: Source, K: Sink, G: Guard>(
     replayed::<R, S, K, G>(alloc, source, sink, guards)
 }
 
+/// Reads a scenario of either version to its end, and writes its text in version 2, each line in one piece. A run of
+/// that has the output of the same run of what was read. It waits for nobody and always returns.
+///
+/// The word is `upgrade`; other words are refused. Both counts of faults have to be below 2^64 - 1.
+pub fn upgrade<S: Source, K: Sink>(
+    alloc: Global,
+    words: &[String],
+    source: &mut S,
+    sink: &mut K,
+) -> Status
+    requires source { S.faults source.old < 2 ^ 64 - 1 }
+    requires sink { K.faults sink.old < 2 ^ 64 - 1 }
+
+    // When each status comes, what was read for it, and what was written.
+    ensures ends { Asks Upgrade words.now → EndsAsUpgrade
+        (record { bytes = S.left; faults = S.faults; before = source.old; after = source.new })
+        (record { bytes = K.written; faults = K.faults; before = sink.old; after = sink.new })
+        result }
+
+    // Other words are refused, and no other. Nothing is read for them and nothing written.
+    ensures bad_words { (result ≡ Status.BadWords) ↔ ¬ Asks Upgrade words.now }
+    ensures unread { result ≡ Status.BadWords → source.new ≡ source.old }
+    ensures unwritten { result ≡ Status.BadWords → sink.new ≡ sink.old }
+{
+    if !is_upgrade(alloc, words) {
+        return Status::BadWords;
+    }
+    upgraded(alloc, source, sink)
+}
+
 /// Draws the scenario of a seed, makes its steps in their order and then the entries of the final drain, and writes how
 /// many entries, picks and tries to steal there were, and the report, each line in one piece. It reads nothing, waits
 /// for nobody and always returns.
@@ -81,13 +112,13 @@ pub fn drill<R: FromScenario<Guards<G>>, K: Sink, G: Guard>(
     }
 }
 
-/// Runs the command of the words. The words of `replay` and of `drill` are those of these calls, and it does what they
-/// do. With the word `race` a scenario is read as for `replay`. Each actor that has a step line makes its script in a
+/// Runs the command of the words. The words of `replay`, of `upgrade` and of `drill` are those of these calls, and it
+/// does what they do. With the word `race` a scenario is read as for `replay`. Each actor that has a step line makes its script in a
 /// worker of its own, and the order of the entries is that in which the workers come to the room. A worker passes the
 /// gate before each of its turns, even before the one that finds its script done. Other words are no command's.
 ///
 /// Else it asks for what `replay` asks for. With the word `race` it may wait, so its return is not promised. `R` is the
-/// machine that plays. A drill has no guards, so those that are handed in are dropped.
+/// machine that plays. A drill and an upgrade have no guards, so those that are handed in are dropped.
 pub fn run<
     R: FromScenario<Guards<G>> + Send,
     T: Threads + Wait + AllocGlobal + Sync,
@@ -116,6 +147,7 @@ pub fn run<
     match command_of(rt.alloc(), words) {
         Some(Command::Replay) => replayed::<R, S, K, G>(rt.alloc(), source, sink, guards),
         Some(Command::Race) => raced::<R, T, S, K, P, G>(rt, source, sink, gate, guards),
+        Some(Command::Upgrade) => upgraded(rt.alloc(), source, sink),
         Some(Command::Drill { seed }) => drilled::<R, K, G>(rt.alloc(), seed, sink),
         None => Status::BadWords,
     }

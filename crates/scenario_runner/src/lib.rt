@@ -4,7 +4,8 @@
 mod command;
 mod drilled;
 mod played;
+mod upgraded;
 
-pub use command::{drill, replay, run};
+pub use command::{drill, replay, run, upgrade};
 pub use played::opened;
 pub use scenario_input::{GuardKind, Status, play};

@@ -171,7 +171,7 @@ words_are words n is =
     ext_get_or [] words (map (parts words).at (range_with_len 0 n)) (is ∙ sym (length-map-range_with_len (parts words).at 0 n))
     (λ i lt. sym (get_or-map-range_with_len (parts words).at 0 n i i [] (omega arith) (omega arith)))
 
-abbrev any_word : Field
+abbrev pub any_word : Field
 any_word = record { has_shape = λ word. true; is_right = λ word. true }
 
 righted_from : (k : ℕ) (form : Form) (words : Parts) → righted k form words ≡ true → (i : ℕ) → i < length form → (get_or form i any_word).is_right (words.at (k + i)) ≡ true

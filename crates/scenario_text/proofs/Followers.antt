@@ -14,7 +14,7 @@ use Rattle.cs_types.specs.Scenario.{AreDistinct, IsLed, AreLed, AreNumbered}
 use Rattle.scenario_text.specs.Reading.{has_fresh_pid, has_leader}
 
 -- no element passes a test that not any does
-any_fails : {X : Type 0} (p : X → Bool) (xs : List X) → list_any p xs ≡ false → All (λ x. p x ≡ false) xs
+pub any_fails : {X : Type 0} (p : X → Bool) (xs : List X) → list_any p xs ≡ false → All (λ x. p x ≡ false) xs
 any_fails p xs none k d lt =
     false_from_ne_true (p (get_or xs k d)) (λ passes. both_ways (list_any p xs) none (list_any_at p xs k d lt passes))
 

@@ -3,7 +3,7 @@ use Rattle.std.proofs.Common.{◌≡◌, ℕ, suc, Bool, true, false, cond, eqb,
 use Rattle.std.specs.Prelude.{◌&&◌}
 use Rattle.std.specs.List.{list_any}
 use Rattle.std.proofs.lemmas.Bool.{cases_Bool, cases_eq, or_parts, eq-eqb, ne_eqb}
-use Rattle.scenario_text.specs.declared.fault.BadKind.TheVariants.{After, Cut, Shape, Number, Twice, Leader, Full}
+use Rattle.scenario_text.specs.declared.fault.BadKind.TheVariants.{After, Cut, Shape, Number, Twice, Leader, Full, User}
 use Rattle.scenario_text.specs.Words.{Word}
 use Rattle.scenario_text.specs.Grammar.{Form, has_shape, is_right}
 use Rattle.scenario_text.specs.Faults.{is_right_in}
@@ -99,6 +99,7 @@ module _ {A : Type 0} (words : List Word) (forms more : List Form) where
   judged_after (Err Twice) none h = absurd h
   judged_after (Err Leader) none h = absurd h
   judged_after (Err Full) none h = absurd h
+  judged_after (Err User) none h = absurd h
 
   -- none of the forms behind has the line's shape
   pub judged_before : (r : Read A) → any_shape more words ≡ false → Judged r forms words → Judged r (forms ++ more) words
@@ -110,6 +111,7 @@ module _ {A : Type 0} (words : List Word) (forms more : List Form) where
   judged_before (Err Twice) none h = absurd h
   judged_before (Err Leader) none h = absurd h
   judged_before (Err Full) none h = absurd h
+  judged_before (Err User) none h = absurd h
 
 -- the forms of readings
 abbrev pub forms_of : {A : Type 0} → Readings A → List Form

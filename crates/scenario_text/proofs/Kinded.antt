@@ -4,10 +4,10 @@ use Rattle.std.specs.Prelude.{◌&&◌, not}
 use Rattle.std.specs.List.{list_any}
 use Rattle.std.proofs.lemmas.Bool.{cases_lt, ne_eqb, le-leb, ltb-false, or_parts, and_right, false_from_ne_true}
 use Rattle.scenario_text.specs.declared.fault.BadKind.{BadKind}
-use Rattle.scenario_text.specs.declared.fault.BadKind.TheVariants.{After, Cut, Shape, Number, Twice, Leader, Full}
+use Rattle.scenario_text.specs.declared.fault.BadKind.TheVariants.{After, Cut, Shape, Number, Twice, Leader, Full, User}
 use Rattle.scenario_text.specs.Words.{Word}
 use Rattle.scenario_text.specs.Grammar.{Form, has_shape}
-use Rattle.scenario_text.specs.Faults.{forms_after, has_form, is_twice, is_unled, is_full, has_end, first_held, is_nothing, kind_of}
+use Rattle.scenario_text.specs.Faults.{forms_after, has_form, is_twice, is_unled, is_full, is_wrong_user, has_end, first_held, is_nothing, kind_of}
 use Rattle.scenario_text.specs.Reading.{usable}
 use Rattle.scenario_text.proofs.Judging.{any_shape, Judged}
 
@@ -43,7 +43,7 @@ is_empty word = eqb (length word) 0
 
 -- what is told of a line that is right in its form
 abbrev pub goes_wrong : List (List Word) → List Word → Option BadKind
-goes_wrong before words = first_held ((is_twice before words, Twice) ∷ (is_unled before words, Leader) ∷ (is_full before words, Full) ∷ [])
+goes_wrong before words = first_held ((is_twice before words, Twice) ∷ (is_unled before words, Leader) ∷ (is_full before words, Full) ∷ (is_wrong_user before words, User) ∷ [])
 
 module _ (before : List (List Word)) (no_end : has_end before ≡ false) where
   -- the last line is not ended
@@ -75,6 +75,7 @@ module _ (before : List (List Word)) (no_end : has_end before ≡ false) where
       judged_kind A Twice h = absurd h
       judged_kind A Leader h = absurd h
       judged_kind A Full h = absurd h
+      judged_kind A User h = absurd h
 
       pub right_kind : {A : Type 0} (x : A) → Judged (Ok x) (forms_after before) words → kind_of before (words ∷ next ∷ more) ≡ goes_wrong before words
       right_kind x h = rw (no_end, some_left, whole, h.0, h.1) refl

@@ -6,6 +6,8 @@ pub mod Policies
 pub mod Judging
 pub mod Said
 pub mod Heads
+pub mod Users
+pub mod Named
 pub mod TaskLines
 pub mod Tasks
 pub mod Steps

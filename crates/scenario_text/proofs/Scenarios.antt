@@ -1,30 +1,35 @@
 -- Scenarios: what is read from a text is the scenario of the text, and no line of a scenario's text is bad.
-use Rattle.std.proofs.Common.{◌≡◌, ℕ, ◌+◌, ◌<◌, List, [], ◌∷◌, ◌++◌, length, map, get_or, Result, Ok, Err, refl, sym, ap, subst, ◌∙◌, arith, append_assoc, inl, inr, All}
+use Rattle.std.proofs.Common.{◌≡◌, ℕ, ◌+◌, ◌<◌, ◌≤◌, Bool, true, false, cond, eqb, List, [], ◌∷◌, ◌++◌, length, map, get_or, take_all, Result, Ok, Err, refl, sym, ap, subst, ◌∙◌, arith, append_assoc, inl, inr, All}
 use Rattle.std.specs.Prelude.{◌⊎◌, MatchResult, IfOk, IsErrAnd, codes}
-use Rattle.std.specs.List.{AllByRecursion, range_with_len}
+use Rattle.std.specs.List.{AllByRecursion, range_with_len, enumerate_from}
+use Rattle.std.proofs.lemmas.Bool.{both_ways, cond_both, cond-true, cond-false, leb-true}
 use Rattle.std.proofs.lemmas.List.{append-nil, length-map}
-use Rattle.std.proofs.lemmas.List.Elements.{recursion_from_All}
+use Rattle.std.proofs.lemmas.List.Elements.{All-nil, All-from_recursion, recursion_from_All}
+use Rattle.cs_types.specs.declared.task.Creds.{Creds}
 use Rattle.cs_types.specs.declared.task.TaskSpec.{TaskSpec}
 use Rattle.cs_types.specs.declared.event.Step.{Step}
 use Rattle.cs_types.specs.declared.scenario.Scenario.{Scenario}
 use Rattle.cs_types.specs.declared.scenario.Teach.{Teach}
-use Rattle.cs_types.specs.Scenario.{IsTask, IsTeach, IsStep, IsValid}
+use Rattle.cs_types.specs.Scenario.{AreCreds, users_of, user_lines, IsTask, IsTeach, AreNumbered, IsStep, IsValid}
 use Rattle.scenario_text.specs.declared.fault.BadKind.{BadKind}
 use Rattle.scenario_text.specs.declared.fault.ReadFault.{ReadFault}
 use Rattle.scenario_text.specs.declared.fault.ReadFault.TheVariants.{Bad, OutOfMemory}
 use Rattle.scenario_text.specs.declared.head.Head.{Head}
-use Rattle.scenario_text.specs.Words.{Word, task_words, teach_words}
-use Rattle.scenario_text.specs.Text.{step_words, end_words, scenario_lines}
+use Rattle.scenario_text.specs.declared.task.UserLine.{UserLine}
+use Rattle.scenario_text.specs.declared.task.TaskLine.{TaskLine}
+use Rattle.scenario_text.specs.Words.{Word, user_words, teach_words}
+use Rattle.scenario_text.specs.Text.{users_words, number_of, task_words_in, users_in, step_words, end_words, scenario_lines}
 use Rattle.scenario_text.specs.Faults.{lines_in, is_named, named, IsFirstBad}
 use Rattle.scenario_text.specs.Reader.{IsTextOf, HasNoScenario, HasOneScenario}
-use Rattle.scenario_text.specs.Grammar.{task_form, teach_form}
-use Rattle.scenario_text.specs.Reading.{parts, read_in, task_value, teach_value, step_line, siblings_reading, limits_reading, head_words, Contents, IsHead, head_lines, IsPlan, plan_lines, nothing, ReadsLines}
+use Rattle.scenario_text.specs.Grammar.{user_form, task_form, teach_form}
+use Rattle.scenario_text.specs.Reading.{parts, read_in, user_value, user_at, task_value, teach_value, step_line, version_reading, siblings_reading, limits_reading, count_words, head_words, Contents, count_named, are_named, AreApart, IsHead, head_lines, IsPlan, plan_lines, nothing, ReadsLines}
 use Rattle.scenario_text.proofs.Texts.{lines_in-flat_map, text_is}
-use Rattle.scenario_text.proofs.Heads.{count_again, limits_again}
-use Rattle.scenario_text.proofs.Tasks.{task_again, teach_again}
+use Rattle.scenario_text.proofs.Heads.{version_again, count_again, limits_again}
+use Rattle.scenario_text.proofs.Tasks.{task_line_words, HasOwner, user_again, task_again, teach_again}
 use Rattle.scenario_text.proofs.Steps.{step_again}
-use Rattle.scenario_text.proofs.Plain.{plain_scenario}
-use Rattle.scenario_text.proofs.Drafts.{ok_is, draft_lines, filter-append, tasks_named, teaches_named, steps_named}
+use Rattle.scenario_text.proofs.Plain.{users_kept, plain_scenario}
+use Rattle.scenario_text.proofs.Users.{apart_different, users_few, there_is, owned}
+use Rattle.scenario_text.proofs.Drafts.{ok_is, draft_lines, siblings_within, filter-append, users_named_here, tasks_named, teaches_named, steps_named}
 use Rattle.scenario_text.proofs.Firsts.{one_first}
 use Rattle.scenario_text.proofs.Again.{none_bad}
 
@@ -32,14 +37,15 @@ use Rattle.scenario_text.proofs.Again.{none_bad}
 
 abbrev pub head_of : Scenario → Head
 head_of s =
-    record { siblings = s.siblings; task_limit = s.task_limit; cookie_limit = s.cookie_limit; user_top = s.user_top }
+    record { version = s.version; siblings = s.siblings; task_limit = s.task_limit; cookie_limit = s.cookie_limit; user_top = s.user_top }
 
 abbrev pub plan_of : Scenario → Contents
-plan_of s = record { tasks = s.tasks; teaches = s.teaches; steps = s.steps }
+plan_of s = record { users = users_in s.version s.tasks; tasks = s.tasks; teaches = s.teaches; steps = s.steps }
 
 abbrev made_of : Head → Contents → Scenario
 made_of head plan =
     record {
+      version = head.version;
       siblings = head.siblings;
       task_limit = head.task_limit;
       cookie_limit = head.cookie_limit;
@@ -49,41 +55,70 @@ made_of head plan =
       steps = plan.steps;
     }
 
+-- users that have lines are as many as a text has lines for them
+user_lines_is : (version : ℕ) (tasks : List TaskSpec) → length (users_in version tasks) ≡ user_lines version tasks
+user_lines_is version tasks = by_version (eqb version 2) where
+  by_version : (second : Bool) → length (cond second (users_of tasks) []) ≡ cond second (length (users_of tasks)) 0
+  by_version true = refl
+  by_version false = refl
+
+-- where each user is named, the users are those of the tasks
+users_complete : (version siblings limit : ℕ) (plan : Contents) → IsPlan version siblings limit plan → are_named version plan ≡ true → plan.users ≡ users_in version plan.tasks
+unfolding are_named
+users_complete version siblings limit plan p named =
+    let all : length plan.users ≤ count_named version plan = leb-true _ _ named in
+    sym (p.named ∙ take_all (count_named version plan) plan.users all)
+
 -- what is read is spelled so
-pub made_is : (head : Head) (plan : Contents) (lines rest : List (List Word)) → IsHead head → lines ≡ head_lines head ++ rest → IsPlan head.siblings head.task_limit plan → rest ≡ plan_lines plan ++ end_words ∷ nothing →
+pub made_is : (head : Head) (plan : Contents) (lines rest : List (List Word)) → IsHead head → lines ≡ head_lines head ++ rest → IsPlan head.version head.siblings head.task_limit plan → are_named head.version plan ≡ true → rest ≡ plan_lines head.version plan ++ end_words ∷ nothing →
     IsValid (made_of head plan) × (lines ≡ scenario_lines (made_of head plan) ++ nothing)
-made_is head plan lines rest h cut p left = (
-  record {
-    siblings = h.siblings;
-    task_limit = h.task_limit;
-    cookie_limit = h.cookie_limit;
-    user_top = h.user_top;
-    tasks = p.tasks;
-    distinct = p.distinct;
-    led = p.led;
-    few_tasks = p.few_tasks;
-    teaches = p.teaches;
-    numbered = p.numbered;
-    few_teaches = p.few_teaches;
-    steps = p.steps;
-    few_steps = p.few_steps;
-  },
-  cut ∙ ap (λ (ls : List (List Word)). head_lines head ++ ls) (left ∙ sym (append_assoc (plan_lines plan) (end_words ∷ []) nothing)),
-)
+made_is head plan lines rest h cut p named left =
+    let users = users_complete head.version head.siblings head.task_limit plan p named in (
+      record {
+        version = h.version;
+        siblings = h.siblings;
+        task_limit = h.task_limit;
+        cookie_limit = h.cookie_limit;
+        user_top = h.user_top;
+        tasks = p.tasks;
+        distinct = p.distinct;
+        led = p.led;
+        few_tasks = p.few_tasks;
+        teaches = p.teaches;
+        numbered = subst (λ n. AreNumbered (n + length plan.tasks) plan.teaches) (ap length users ∙ user_lines_is head.version plan.tasks) p.numbered;
+        few_teaches = p.few_teaches;
+        steps = p.steps;
+        few_steps = p.few_steps;
+      },
+      cut
+          ∙ ap (λ (ls : List (List Word)). head_lines head ++ ls) (left
+          ∙ ap (λ (us : List Creds). plan_lines head.version (record plan { users = us }) ++ end_words ∷ nothing) users
+          ∙ sym (append_assoc (plan_lines head.version (record plan { users = users_in head.version plan.tasks })) (end_words ∷ []) nothing)),
+    )
+
+-- the users of a scenario have credentials
+kept : (version : ℕ) (tasks : List TaskSpec) (siblings : ℕ) → All (IsTask siblings) tasks → All AreCreds (users_in version tasks)
+kept version tasks siblings are =
+    cond_both (eqb version 2) (users_of tasks) [] (All AreCreds) (λ _. All-from_recursion AreCreds (users_of tasks) (users_kept tasks siblings are)) (λ _. All-nil AreCreds)
 
 -- and a valid scenario is made up of these
 pub head_is : (s : Scenario) → IsValid s → IsHead (head_of s)
 head_is s valid =
-    record { siblings = valid.siblings; task_limit = valid.task_limit; cookie_limit = valid.cookie_limit; user_top = valid.user_top }
+    record { version = valid.version; siblings = valid.siblings; task_limit = valid.task_limit; cookie_limit = valid.cookie_limit; user_top = valid.user_top }
 
-pub plan_is : (s : Scenario) → IsValid s → IsPlan s.siblings s.task_limit (plan_of s)
+pub plan_is : (s : Scenario) → IsValid s → IsPlan s.version s.siblings s.task_limit (plan_of s)
 plan_is s valid = record {
+  users = kept s.version s.tasks s.siblings valid.tasks;
+  apart = cond_both (eqb s.version 2) (users_of s.tasks) [] AreApart (λ _. apart_different (map (λ task. task.creds) s.tasks)) (λ _ i j d lt below. absurd (omega arith));
+  few_users = omega (arith, users_few s.version s.tasks, valid.few_tasks, valid.task_limit);
+  no_users = λ one. cond-false (eqb s.version 2) _ _ one;
+  named = sym (take_all (length (users_in s.version s.tasks)) (users_in s.version s.tasks) (omega arith));
   tasks = valid.tasks;
   distinct = valid.distinct;
   led = valid.led;
   few_tasks = valid.few_tasks;
   teaches = valid.teaches;
-  numbered = valid.numbered;
+  numbered = subst (λ n. AreNumbered (n + length s.tasks) s.teaches) (sym (user_lines_is s.version s.tasks)) valid.numbered;
   few_teaches = valid.few_teaches;
   steps = valid.steps;
   few_steps = valid.few_steps;
@@ -115,9 +150,62 @@ map_same f P same (x ∷ xs) (y ∷ ys) are are' e =
     let rest = map_same f P same xs ys are.1 are'.1 parts.1 in
     λ i. first i ∷ rest i
 
-task_same : (siblings : ℕ) → siblings < 256 → (task other : TaskSpec) → IsTask siblings task → IsTask siblings other → task_words task ≡ task_words other → task ≡ other
-task_same siblings few task other is is' e =
-    ok_is task other (sym (task_again siblings task few is) ∙ ap (λ (ws : List Word). read_in ((task_form siblings, task_value) ∷ []) (parts ws)) e ∙ task_again siblings other few is')
+-- a task, with the number of its user
+abbrev owner_of : ℕ → List Creds → TaskSpec → ℕ
+owner_of version users task = cond (eqb version 2) (number_of users task.creds) 0
+
+-- a task of a scenario, whose user has a line in version 2
+record IsOwned (version siblings : ℕ) (users : List Creds) (task : TaskSpec) : Type 0 where
+  is : IsTask siblings task
+  inside : eqb version 2 ≡ true → number_of users task.creds < length users
+
+has_owner : (version siblings : ℕ) (users : List Creds) → length users ≤ 256 → (task : TaskSpec) → IsOwned version siblings users task → HasOwner version users (record { spec = task; user = owner_of version users task })
+has_owner version siblings users few task owned = by_version (eqb version 2) refl where
+  by_version : (second : Bool) → eqb version 2 ≡ second → HasOwner version users (record { spec = task; user = owner_of version users task })
+  by_version false one =
+      let none : owner_of version users task ≡ 0 = cond-false (eqb version 2) _ _ one in
+      record { first = λ _. none; few = omega arith; second = λ two. absurd (both_ways (eqb version 2) one two) }
+  by_version true two =
+      let number : owner_of version users task ≡ number_of users task.creds = cond-true (eqb version 2) _ _ two in
+      let inside = owned.inside two in
+      record {
+        first = λ one. absurd (both_ways (eqb version 2) one two);
+        few = omega arith;
+        second = λ _. there_is users task.creds inside ∙ ap (user_at users) (sym number);
+      }
+
+line_is_words : (version : ℕ) (users : List Creds) (task : TaskSpec) → task_line_words version (record { spec = task; user = owner_of version users task }) ≡ task_words_in version users task
+line_is_words version users task = by_version (eqb version 2) refl where
+  by_version : (second : Bool) → eqb version 2 ≡ second → task_line_words version (record { spec = task; user = owner_of version users task }) ≡ task_words_in version users task
+  by_version true two = rw two refl
+  by_version false one = rw one refl
+
+task_same : (version siblings : ℕ) (users : List Creds) → siblings < 256 → length users ≤ 256 → (task other : TaskSpec) → IsOwned version siblings users task → IsOwned version siblings users other → task_words_in version users task ≡ task_words_in version users other → task ≡ other
+task_same version siblings users small few task other is is' e =
+    let read = λ (ws : List Word). read_in ((task_form version siblings, task_value version users) ∷ []) (parts ws) in
+    let line = ok_is (record { spec = task; user = owner_of version users task }) (record { spec = other; user = owner_of version users other })
+    (sym (task_again siblings small users (record { spec = task; user = owner_of version users task }) is.is version (has_owner version siblings users few task is))
+    ∙ ap read (line_is_words version users task ∙ e ∙ sym (line_is_words version users other))
+    ∙ task_again siblings small users (record { spec = other; user = owner_of version users other }) is'.is version (has_owner version siblings users few other is')) in
+    ap (λ (l : TaskLine). l.spec) line
+
+-- users that are spelled alike
+user_same : (n : ℕ) → n ≤ 255 → (a b : Creds) → AreCreds a → AreCreds b → user_words n a ≡ user_words n b → a ≡ b
+user_same n few a b is is' e =
+    let line = ok_is (record { number = n; creds = a }) (record { number = n; creds = b })
+    (sym (user_again (record { number = n; creds = a }) few is) ∙ ap (λ (ws : List Word). read_in ((user_form, user_value) ∷ []) (parts ws)) e ∙ user_again (record { number = n; creds = b }) few is') in
+    ap (λ (l : UserLine). l.creds) line
+
+users_same : (us ts : List Creds) (start : ℕ) → start + length us ≤ 256 → AllByRecursion AreCreds us → AllByRecursion AreCreds ts →
+    map (λ (numbered : ℕ × Creds). user_words numbered.0 numbered.1) (enumerate_from start us) ≡ map (λ (numbered : ℕ × Creds). user_words numbered.0 numbered.1) (enumerate_from start ts) → us ≡ ts
+users_same [] [] start few are are' e = refl
+users_same [] (y ∷ ys) start few are are' e = absurd (not_cons (user_words start y) _ (sym e))
+users_same (x ∷ xs) [] start few are are' e = absurd (not_cons (user_words start x) _ e)
+users_same (x ∷ xs) (y ∷ ys) start few are are' e =
+    let parts = same_cons _ _ _ _ e in
+    let first = user_same start (omega arith) x y are.0 are'.0 parts.0 in
+    let rest = users_same xs ys (start + 1) (omega arith) are.1 are'.1 parts.1 in
+    λ i. first i ∷ rest i
 
 step_same : (siblings : ℕ) → siblings < 256 → (step other : Step) → IsStep siblings step → IsStep siblings other → step_words step ≡ step_words other → step ≡ other
 step_same siblings few step other is is' e =
@@ -148,7 +236,13 @@ map_pair f g (x ∷ xs) (y ∷ ys) e k =
 abbrev whole : Scenario → List (List Word)
 whole s = draft_lines (head_of s) (plan_of s) ++ end_words ∷ nothing
 
-tasks_of : (s : Scenario) → named (codes "task") (whole s) ≡ map task_words s.tasks
+users_given : (s : Scenario) → named (codes "user") (whole s) ≡ users_words (users_in s.version s.tasks)
+users_given s =
+    filter-append (is_named (codes "user")) (draft_lines (head_of s) (plan_of s)) (end_words ∷ nothing)
+    ∙ append-nil (named (codes "user") (draft_lines (head_of s) (plan_of s)))
+    ∙ users_named_here (head_of s) (plan_of s)
+
+tasks_of : (s : Scenario) → named (codes "task") (whole s) ≡ map (task_words_in s.version (users_in s.version s.tasks)) s.tasks
 tasks_of s =
     filter-append (is_named (codes "task")) (draft_lines (head_of s) (plan_of s)) (end_words ∷ nothing)
     ∙ append-nil (named (codes "task") (draft_lines (head_of s) (plan_of s)))
@@ -167,31 +261,57 @@ steps_of s =
     ∙ steps_named (head_of s) (plan_of s)
 
 whole_is : (s : Scenario) → scenario_lines s ++ nothing ≡ whole s
-whole_is s = ap (λ (ls : List (List Word)). head_lines (head_of s) ++ ls) (append_assoc (plan_lines (plan_of s)) (end_words ∷ []) nothing)
+whole_is s = ap (λ (ls : List (List Word)). head_lines (head_of s) ++ ls) (append_assoc (plan_lines s.version (plan_of s)) (end_words ∷ []) nothing)
 
 module _ (s t : Scenario) (is : IsValid s) (is' : IsValid t) (e : whole s ≡ whole t) where
+  same_version : s.version ≡ t.version
+  same_version =
+      ok_is s.version t.version
+      (sym (version_again s.version is.version) ∙ ap (λ (ls : List (List Word)). read_in version_reading (parts (get_or ls 0 []))) e ∙ version_again t.version is'.version)
+
   same_siblings : s.siblings ≡ t.siblings
   same_siblings =
       ok_is s.siblings t.siblings
-      (sym (count_again s.siblings is.siblings) ∙ ap (λ (ls : List (List Word)). read_in siblings_reading (parts (get_or ls 1 []))) e ∙ count_again t.siblings is'.siblings)
+      (sym (count_again s.version s.siblings is.siblings)
+      ∙ ap (λ (n : ℕ). read_in (siblings_reading n) (parts (count_words s.siblings))) same_version
+      ∙ ap (λ (ls : List (List Word)). read_in (siblings_reading t.version) (parts (get_or ls 1 []))) e
+      ∙ count_again t.version t.siblings is'.siblings)
 
   same_head : head_of s ≡ head_of t
   same_head =
       ok_is (head_of s) (head_of t)
       (sym (limits_again (head_of s) (head_is s is))
-      ∙ ap (λ (n : ℕ). read_in (limits_reading n) (parts (head_words (head_of s)))) same_siblings
-      ∙ ap (λ (ls : List (List Word)). read_in (limits_reading t.siblings) (parts (get_or ls 2 []))) e
+      ∙ (λ i. read_in (limits_reading (same_version i) (same_siblings i)) (parts (head_words (head_of s))))
+      ∙ ap (λ (ls : List (List Word)). read_in (limits_reading t.version t.siblings) (parts (get_or ls 2 []))) e
       ∙ limits_again (head_of t) (head_is t is'))
 
   few : t.siblings < 256
-  few = let two = is'.siblings in omega arith
+  few = let two = siblings_within (head_of t) (head_is t is') in omega arith
+
+  short : length (users_in t.version t.tasks) ≤ 256
+  short = omega (arith, users_few t.version t.tasks, is'.few_tasks, is'.task_limit)
+
+  same_users : users_in s.version s.tasks ≡ users_in t.version t.tasks
+  same_users =
+      users_same (users_in s.version s.tasks) (users_in t.version t.tasks) 0 (omega (arith, users_few s.version s.tasks, is.few_tasks, is.task_limit))
+      (recursion_from_All AreCreds _ (kept s.version s.tasks s.siblings is.tasks)) (recursion_from_All AreCreds _ (kept t.version t.tasks t.siblings is'.tasks))
+      (sym (users_given s) ∙ ap (named (codes "user")) e ∙ users_given t)
+
+  are_owned : (u : Scenario) (are : All (IsTask t.siblings) u.tasks) → u.version ≡ t.version → users_in u.version u.tasks ≡ users_in t.version t.tasks → All (IsOwned t.version t.siblings (users_in t.version t.tasks)) u.tasks
+  are_owned u are version users k d lt = record {
+    is = are k d lt;
+    inside = λ two.
+        let all : users_of u.tasks ≡ users_in t.version t.tasks = sym (cond-true (eqb u.version 2) _ _ (ap (λ n. eqb n 2) version ∙ two)) ∙ users in
+        subst (λ us. number_of us (get_or u.tasks k d).creds < length us) all (owned u.tasks k d lt);
+  }
 
   same_tasks : s.tasks ≡ t.tasks
   same_tasks =
-      map_same task_words (IsTask t.siblings) (task_same t.siblings few) s.tasks t.tasks
-      (recursion_from_All (IsTask t.siblings) s.tasks (subst (λ (n : ℕ). All (IsTask n) s.tasks) same_siblings is.tasks))
-      (recursion_from_All (IsTask t.siblings) t.tasks is'.tasks)
-      (sym (tasks_of s) ∙ ap (named (codes "task")) e ∙ tasks_of t)
+      let users = users_in t.version t.tasks in
+      map_same (task_words_in t.version users) (IsOwned t.version t.siblings users) (task_same t.version t.siblings users few short) s.tasks t.tasks
+      (recursion_from_All _ s.tasks (are_owned s (subst (λ (n : ℕ). All (IsTask n) s.tasks) same_siblings is.tasks) same_version same_users))
+      (recursion_from_All _ t.tasks (are_owned t is'.tasks refl refl))
+      ((λ i. map (task_words_in (sym same_version i) (sym same_users i)) s.tasks) ∙ sym (tasks_of s) ∙ ap (named (codes "task")) e ∙ tasks_of t)
 
   same_steps : s.steps ≡ t.steps
   same_steps =
@@ -206,14 +326,14 @@ module _ (s t : Scenario) (is : IsValid s) (is' : IsValid t) (e : whole s ≡ wh
       let count : length s.teaches ≡ length t.teaches = sym (length-map s.teaches teach_words) ∙ ap length words ∙ length-map t.teaches teach_words in
       let numbers : map (λ teach. teach.line) s.teaches ≡ map (λ teach. teach.line) t.teaches =
       is.numbered
-      ∙ ap (λ (ts : List TaskSpec). range_with_len (length ts + 4) (length s.teaches)) same_tasks
-      ∙ ap (range_with_len (length t.tasks + 4)) count
+      ∙ (λ i. range_with_len (user_lines (same_version i) (same_tasks i) + length (same_tasks i) + 4) (length s.teaches))
+      ∙ ap (range_with_len (user_lines t.version t.tasks + length t.tasks + 4)) count
       ∙ sym is'.numbered in
       map_same told IsTeach teach_same s.teaches t.teaches (recursion_from_All IsTeach s.teaches is.teaches) (recursion_from_All IsTeach t.teaches is'.teaches)
       (map_pair (λ teach. teach.line) teach_words s.teaches t.teaches numbers words)
 
   same_scenario : s ≡ t
-  same_scenario = λ i. made_of (same_head i) (record { tasks = same_tasks i; teaches = same_teaches i; steps = same_steps i })
+  same_scenario = λ i. made_of (same_head i) (record { users = same_users i; tasks = same_tasks i; teaches = same_teaches i; steps = same_steps i })
 
 pub one_scenario : (bytes : List ℕ) → HasOneScenario bytes
 one_scenario bytes s t is is' =
@@ -224,7 +344,7 @@ one_scenario bytes s t is is' =
 -- a text with a bad line is no scenario's
 pub none_of : (bytes : List ℕ) (number : ℕ) (kind : BadKind) → IsFirstBad (lines_in bytes) number kind → HasNoScenario bytes
 none_of bytes number kind bad s is =
-    none_bad (head_of s) (head_is s is.valid) (plan_of s) (plan_is s is.valid) number kind
+    none_bad (head_of s) (head_is s is.valid) (plan_of s) (plan_is s is.valid) refl number kind
     (subst (λ (ls : List (List Word)). IsFirstBad ls number kind) (text_lines bytes s is ∙ whole_is s) bad)
 
 pub found_of : (bytes : List ℕ) (r : Result Scenario ReadFault) → ReadsLines (lines_in bytes) r → IfOk r (IsTextOf bytes)

@@ -1,15 +1,16 @@
--- TaskLines: a task line, of which the words behind the policy are read first. With a word that is not right it is refused,
+-- TaskLines: a user line or a task line, of which the last words are read first. With a word that is not right it is refused,
 -- whichever word it is.
-use Rattle.std.proofs.Common.{◌≡◌, ◌∙◌, ℕ, zero, suc, ◌+◌, ◌≤◌, ◌<◌, Bool, true, false, ltb, eqb, cond, inl, inr, ◌-◌, [], ◌∷◌, length, get_or, Ok, Err, refl, sym, ap, subst, arith}
+use Rattle.std.proofs.Common.{◌≡◌, ◌≢◌, ◌∙◌, ℕ, zero, suc, ◌+◌, ◌≤◌, ◌<◌, Bool, true, false, ltb, eqb, cond, inl, inr, ◌-◌, List, [], ◌∷◌, length, get_or, Ok, Err, refl, sym, ap, subst, arith}
 use Rattle.std.specs.Prelude.{◌&&◌, codes, MatchResult}
-use Rattle.std.proofs.lemmas.Bool.{cases_Bool, and_from, and_right, eq-eqb, eqb-true, ltb-true, cond-true, cond-false}
+use Rattle.std.proofs.lemmas.Bool.{cases_Bool, and_from, and_right, eq-eqb, ne_eqb, eqb-true, ltb-true, cond-true, cond-false}
 use Rattle.std.proofs.Math.Bool.{and-false}
 use Rattle.cs_types.specs.declared.task.Creds.{Creds}
-use Rattle.cs_types.specs.declared.task.TaskSpec.{TaskSpec}
+use Rattle.scenario_text.specs.declared.task.UserLine.{UserLine}
+use Rattle.scenario_text.specs.declared.task.TaskLine.{TaskLine}
 use Rattle.scenario_text.specs.declared.fault.BadKind.{BadKind}
 use Rattle.scenario_text.specs.declared.fault.BadKind.TheVariants.{Shape, Number}
-use Rattle.scenario_text.specs.Grammar.{is_word, Form, number, sibling, pid, id, flag, policy, creds_form, task_form}
-use Rattle.scenario_text.specs.Reading.{Parts, after, Read, righted, has, read_in, creds_value, task_value}
+use Rattle.scenario_text.specs.Grammar.{is_word, Form, number, sibling, pid, id, flag, policy, user, creds_form, user_form, owner_form, task_form}
+use Rattle.scenario_text.specs.Reading.{Parts, after, Read, shaped, righted, has, read_in, creds_value, user_value, owner_value, task_value}
 
 -- a word that is not right in its field
 pub wrong_field : (form : Form) (k j place : ℕ) (words : Parts) → place ≡ k + j → j < length form → (get_or form j (number 0 0)).is_right (words.at place) ≡ false → righted k form words ≡ false
@@ -88,42 +89,141 @@ are_creds words creds false right h k e = absurd cc
 pub creds_are : (words : Parts) (creds : Creds) → Ok creds ≡ creds_read words → AreCreds words creds
 creds_are words creds e = are_creds words creds (has creds_form words) (righted 0 creds_form words) refl refl e
 
--- ---- the whole line
+-- ---- the owner of a task
 
-same_count : (n : ℕ) → 6 ≤ n → eqb n 15 ≡ eqb (n - 6) 9
-same_count n some = elim (cases_Bool (eqb n 15)) [
-  | inl is ↦ is ∙ sym (eq-eqb (n - 6) 9 (omega (arith, eqb-true n 15 is)))
-  | inr differs ↦
-      elim (cases_Bool (eqb (n - 6) 9)) [
-        | inl same ↦ let wrong : true ≡ false = sym (eq-eqb n 15 (omega (arith, eqb-true (n - 6) 9 same))) ∙ differs in absurd cc
-        | inr none ↦ differs ∙ sym none
-      ]
-]
+-- a pattern of no so many words
+pub other_count : (n k : ℕ) → n ≢ k → eqb n k ≡ false
+other_count n k differs = ne_eqb n k differs
 
-module _ (siblings : ℕ) (words : Parts) (some : 6 ≤ words.count) (name : is_word (words.at 0) (codes "task") ≡ true) (policed : policy.has_shape (words.at 5) ≡ true) where
+abbrev pub owner_read : ℕ → List Creds → Parts → Read UserLine
+owner_read version users words = read_in ((owner_form version, owner_value version users) ∷ []) words
+
+abbrev with_number : Read Creds → Read UserLine
+with_number (Ok creds) = Ok (record { number = 0; creds = creds })
+with_number (Err kind) = Err kind
+
+-- in version 1 the owner is read as the credentials are
+pub first_owner : (version : ℕ) (users : List Creds) (words : Parts) → eqb version 2 ≡ false → owner_read version users words ≡ with_number (creds_read words)
+first_owner version users words one =
+    rw one (by_tests (has creds_form words) (righted 0 creds_form words)) where
+      by_tests : (has_it right : Bool) →
+          cond has_it (cond right (Ok (record { number = 0; creds = creds_value words })) (Err Number)) (Err Shape) ≡ with_number (cond has_it (cond right (taken (creds_value words)) (Err Number)) (Err Shape))
+      by_tests true true = refl
+      by_tests true false = refl
+      by_tests false right = refl
+
+abbrev owned : UserLine → Read UserLine
+owned user = Ok user
+
+-- words of which this owner is read
+pub record IsOwner (version : ℕ) (users : List Creds) (words : Parts) (owner : UserLine) : Type 0 where
+  pub shape : has (owner_form version) words ≡ true
+  pub right : righted 0 (owner_form version) words ≡ true
+  pub said : owner ≡ owner_value version users words
+
+owner_by : (version : ℕ) (users : List Creds) (words : Parts) (owner : UserLine) (has_it right : Bool) → has (owner_form version) words ≡ has_it → righted 0 (owner_form version) words ≡ right →
+    Ok owner ≡ cond has_it (cond right (owned (owner_value version users words)) (Err Number)) (Err Shape) → IsOwner version users words owner
+owner_by version users words owner true true h k e = record { shape = h; right = k; said = cc }
+owner_by version users words owner true false h k e = absurd cc
+owner_by version users words owner false right h k e = absurd cc
+
+pub owner_is : (version : ℕ) (users : List Creds) (words : Parts) (owner : UserLine) → Ok owner ≡ owner_read version users words → IsOwner version users words owner
+owner_is version users words owner e = owner_by version users words owner (has (owner_form version) words) (righted 0 (owner_form version) words) refl refl e
+
+-- words behind the first ones of a line, and the fields for them
+module _ (front : ℕ) where
+  same_count : (n k : ℕ) → front ≤ n → eqb n (front + k) ≡ eqb (n - front) k
+  same_count n k some = elim (cases_Bool (eqb n (front + k))) [
+    | inl is ↦ is ∙ sym (eq-eqb (n - front) k (omega (arith, eqb-true n (front + k) is)))
+    | inr differs ↦
+        elim (cases_Bool (eqb (n - front) k)) [
+          | inl same ↦ let wrong : true ≡ false = sym (eq-eqb n (front + k) (omega (arith, eqb-true (n - front) k same))) ∙ differs in absurd cc
+          | inr none ↦ differs ∙ sym none
+        ]
+  ]
+
+  shaped_more : (k : ℕ) (form : Form) (words : Parts) → shaped (front + k) form words ≡ shaped k form (after front words)
+  shaped_more k [] words = refl
+  shaped_more k (field ∷ form) words =
+      let next : suc (front + k) ≡ front + suc k = omega arith in
+      ap (λ (b : Bool). field.has_shape (words.at (front + k)) && b) (ap (λ n. shaped n form words) next ∙ shaped_more (suc k) form words)
+
+  righted_more : (k : ℕ) (form : Form) (words : Parts) → righted (front + k) form words ≡ righted k form (after front words)
+  righted_more k [] words = refl
+  righted_more k (field ∷ form) words =
+      let next : suc (front + k) ≡ front + suc k = omega arith in
+      ap (λ (b : Bool). field.is_right (words.at (front + k)) && b) (ap (λ n. righted n form words) next ∙ righted_more (suc k) form words)
+
+-- ---- a whole user line
+
+module _ (words : Parts) (some : 2 ≤ words.count) (name : is_word (words.at 0) (codes "user") ≡ true) where
+  -- the line has its shape where nine words stand behind the number
+  user_shape : has user_form words ≡ has creds_form (after 2 words)
+  user_shape =
+      let count : eqb words.count 11 ≡ eqb (words.count - 2) 9 = same_count 2 words.count 9 some in
+      let shape : shaped 0 user_form words ≡ shaped 0 creds_form (after 2 words) = rw name refl in
+      λ i. count i && shape i
+
+  abbrev again_user : Read Creds → Read UserLine
+  again_user (Ok creds) = Err Shape
+  again_user (Err kind) = Err kind
+
+  creds_by : (kind : BadKind) (has_it right : Bool) → has creds_form (after 2 words) ≡ has_it → righted 0 creds_form (after 2 words) ≡ right →
+      Err kind ≡ cond has_it (cond right (taken (creds_value (after 2 words))) (Err Number)) (Err Shape) → Err kind ≡ read_in ((user_form, user_value) ∷ []) words
+  creds_by kind true true h k e = absurd cc
+  creds_by kind true false h k e =
+      let wrong : righted 0 user_form words ≡ false = and_right (is_word (words.at 0) (codes "user")) _ (and_right (user.is_right (words.at 1)) _ (righted_more 2 0 creds_form words ∙ k)) in
+      ap again_user e ∙ sym (cond-true _ _ _ (user_shape ∙ h) ∙ cond-false _ _ _ wrong)
+  creds_by kind false right h k e = ap again_user e ∙ sym (cond-false _ _ _ (user_shape ∙ h))
+
+  -- credentials that are refused
+  pub creds_refused : (kind : BadKind) → Err kind ≡ creds_read (after 2 words) → Err kind ≡ read_in ((user_form, user_value) ∷ []) words
+  creds_refused kind e = creds_by kind (has creds_form (after 2 words)) (righted 0 creds_form (after 2 words)) refl refl e
+
+  -- a number that is refused
+  pub number_refused : (creds : Creds) → AreCreds (after 2 words) creds → user.is_right (words.at 1) ≡ false → Err Number ≡ read_in ((user_form, user_value) ∷ []) words
+  number_refused creds are wrong = wrong_word user_form user_value words 1 (user_shape ∙ are.shape) refl wrong
+
+  pub right_user : (line : UserLine) (creds : Creds) → AreCreds (after 2 words) creds → user.is_right (words.at 1) ≡ true → line ≡ user_value words → Ok line ≡ read_in ((user_form, user_value) ∷ []) words
+  right_user line creds are number is =
+      let right : righted 0 user_form words ≡ true = and_from _ _ name (and_from _ _ number (righted_more 2 0 creds_form words ∙ are.right)) in
+      ap Ok is ∙ sym (cond-true _ _ _ (user_shape ∙ are.shape) ∙ cond-true _ _ _ right)
+
+-- ---- a whole task line
+
+-- how many words an owner has
+abbrev owner_length : ℕ → ℕ
+owner_length version = length (owner_form version)
+
+module _ (version siblings : ℕ) (users : List Creds) (words : Parts) (some : 6 ≤ words.count) (name : is_word (words.at 0) (codes "task") ≡ true) (policed : policy.has_shape (words.at 5) ≡ true) where
   -- the line has its shape where the words behind the policy have theirs
-  pub task_shape : has (task_form siblings) words ≡ has creds_form (after 6 words)
-  task_shape = ap (λ (b : Bool). eqb words.count 15 && b) (and_from _ _ name (and_from _ _ policed refl)) ∙ ap (λ (b : Bool). b && true) (same_count words.count some)
+  pub task_shape : has (task_form version siblings) words ≡ has (owner_form version) (after 6 words)
+  task_shape =
+      let count : eqb words.count (length (task_form version siblings)) ≡ eqb (words.count - 6) (owner_length version) =
+      ap (eqb words.count) (omega arith) ∙ same_count 6 words.count (owner_length version) some in
+      let shape : shaped 0 (task_form version siblings) words ≡ shaped 0 (owner_form version) (after 6 words) = rw (name, policed) (shaped_more 6 0 (owner_form version) words) in
+      λ i. count i && shape i
 
-  abbrev again : Read Creds → Read TaskSpec
-  again (Ok creds) = Err Shape
+  abbrev again : Read UserLine → Read TaskLine
+  again (Ok owner) = Err Shape
   again (Err kind) = Err kind
 
-  are_refused : (kind : BadKind) (has_it right : Bool) → has creds_form (after 6 words) ≡ has_it → righted 0 creds_form (after 6 words) ≡ right → Err kind ≡ cond has_it (cond right (taken (creds_value (after 6 words))) (Err Number)) (Err Shape) → Err kind ≡ read_in ((task_form siblings, task_value) ∷ []) words
+  are_refused : (kind : BadKind) (has_it right : Bool) → has (owner_form version) (after 6 words) ≡ has_it → righted 0 (owner_form version) (after 6 words) ≡ right →
+      Err kind ≡ cond has_it (cond right (owned (owner_value version users (after 6 words))) (Err Number)) (Err Shape) → Err kind ≡ read_in ((task_form version siblings, task_value version users) ∷ []) words
   are_refused kind true true h k e = absurd cc
   are_refused kind true false h k e =
-      let wrong : righted 0 (task_form siblings) words ≡ false = and_right (is_word (words.at 0) (codes "task")) _ (and_right (pid.is_right (words.at 1)) _ (and_right (pid.is_right (words.at 2)) _ (and_right (pid.is_right (words.at 3)) _ (and_right ((sibling siblings).is_right (words.at 4)) _ (and_right (policy.is_right (words.at 5)) _ k))))) in
+      let wrong : righted 0 (task_form version siblings) words ≡ false = and_right (is_word (words.at 0) (codes "task")) _ (and_right (pid.is_right (words.at 1)) _ (and_right (pid.is_right (words.at 2)) _ (and_right (pid.is_right (words.at 3)) _ (and_right ((sibling siblings).is_right (words.at 4)) _ (and_right (policy.is_right (words.at 5)) _ (righted_more 6 0 (owner_form version) words ∙ k)))))) in
       ap again e ∙ sym (cond-true _ _ _ (task_shape ∙ h) ∙ cond-false _ _ _ wrong)
   are_refused kind false right h k e = ap again e ∙ sym (cond-false _ _ _ (task_shape ∙ h))
 
-  -- credentials that are refused
-  pub creds_refused : (kind : BadKind) → Err kind ≡ creds_read (after 6 words) → Err kind ≡ read_in ((task_form siblings, task_value) ∷ []) words
-  creds_refused kind e = are_refused kind (has creds_form (after 6 words)) (righted 0 creds_form (after 6 words)) refl refl e
+  -- an owner that is refused
+  pub owner_refused : (kind : BadKind) → Err kind ≡ owner_read version users (after 6 words) → Err kind ≡ read_in ((task_form version siblings, task_value version users) ∷ []) words
+  owner_refused kind e = are_refused kind (has (owner_form version) (after 6 words)) (righted 0 (owner_form version) (after 6 words)) refl refl e
 
-  pub right_task : (task : TaskSpec) → AreCreds (after 6 words) task.creds →
+  pub right_task : (task : TaskLine) (owner : UserLine) → IsOwner version users (after 6 words) owner →
       pid.is_right (words.at 1) && pid.is_right (words.at 2) && pid.is_right (words.at 3) ≡ true → (sibling siblings).is_right (words.at 4) ≡ true → policy.is_right (words.at 5) ≡ true →
-      task ≡ task_value words → Ok task ≡ read_in ((task_form siblings, task_value) ∷ []) words
-  right_task task creds pids cpu said is =
-      let right : righted 0 (task_form siblings) words ≡ true =
-      and_from _ _ name (three_and (pid.is_right (words.at 1)) (pid.is_right (words.at 2)) (pid.is_right (words.at 3)) _ pids (and_from _ _ cpu (and_from _ _ said creds.right))) in
-      ap Ok is ∙ sym (cond-true _ _ _ (task_shape ∙ creds.shape) ∙ cond-true _ _ _ right)
+      task ≡ task_value version users words → Ok task ≡ read_in ((task_form version siblings, task_value version users) ∷ []) words
+  right_task task owner owns pids cpu said is =
+      let right : righted 0 (task_form version siblings) words ≡ true =
+      and_from _ _ name (three_and (pid.is_right (words.at 1)) (pid.is_right (words.at 2)) (pid.is_right (words.at 3)) _ pids (and_from _ _ cpu (and_from _ _ said (righted_more 6 0 (owner_form version) words ∙ owns.right)))) in
+      ap Ok is ∙ sym (cond-true _ _ _ (task_shape ∙ owns.shape) ∙ cond-true _ _ _ right)

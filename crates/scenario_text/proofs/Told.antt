@@ -1,16 +1,17 @@
 -- What is told of a line after the head: what is read from it, beside the kinds of fault of the grammar.
-use Rattle.std.proofs.Common.{◌≡◌, ℕ, Bool, true, false, cond, List, [], ◌∷◌, ◌++◌, length, map, Ok, Err, refl, sym, subst, ◌∙◌, arith, inl, inr}
-use Rattle.std.specs.Prelude.{codes, ◌&&◌, ◌||◌, ◌-◌}
+use Rattle.std.proofs.Common.{◌≡◌, ℕ, Bool, true, false, cond, eqb, List, [], ◌∷◌, ◌++◌, length, map, Ok, Err, refl, sym, subst, ◌∙◌, arith, inl, inr}
+use Rattle.std.specs.Prelude.{codes, ◌&&◌, ◌||◌, ◌-◌, not}
 use Rattle.std.proofs.lemmas.Bool.{cases_Bool, le-leb, ne_eqb, and_right}
+use Rattle.cs_types.specs.declared.task.Creds.{Creds}
 use Rattle.cs_types.specs.declared.event.Step.{Step}
-use Rattle.scenario_text.specs.declared.fault.BadKind.TheVariants.{After, Cut, Shape, Number, Twice, Leader, Full}
+use Rattle.scenario_text.specs.declared.fault.BadKind.TheVariants.{After, Cut, Shape, Number, Twice, Leader, Full, User}
 use Rattle.scenario_text.specs.declared.line.Place.{Place}
 use Rattle.scenario_text.specs.declared.line.ScenarioLine.{ScenarioLine}
 use Rattle.scenario_text.specs.declared.line.ScenarioLine.TheVariants as forms
 use Rattle.scenario_text.specs.Words.{Word}
-use Rattle.scenario_text.specs.Grammar.{is_word, begins, behind, is_number, Field, Form, number, marked, sibling, sibling_events, caller_events, step_form, task_form, teach_form, end_form, step_forms, has_shape, is_right}
+use Rattle.scenario_text.specs.Grammar.{is_word, begins, behind, is_number, Field, Form, number, marked, sibling, sibling_events, caller_events, step_form, user_form, task_form, teach_form, end_form, step_forms, has_shape, is_right}
 use Rattle.scenario_text.specs.Faults.{is_right_in}
-use Rattle.scenario_text.specs.Reading.{◌>>=◌, Parts, parts, Read, read_in, joined, sibling_readings, caller_readings, sibling_step, caller_step, task_value, teach_value, task_line, teach_line, step_line, line_of}
+use Rattle.scenario_text.specs.Reading.{◌>>=◌, Parts, parts, Read, read_in, joined, sibling_readings, caller_readings, sibling_step, caller_step, user_value, task_value, teach_value, user_line, task_line, teach_line, step_line, line_of}
 use Rattle.scenario_text.proofs.Fields.{word_is, mark_is}
 use Rattle.scenario_text.proofs.Judging.{any_shape, Judged, judged, judged_after, judged_before, skipped}
 use Rattle.scenario_text.proofs.Steps.{after_is, marked_step}
@@ -48,6 +49,7 @@ module _ (actor : Field) (word : Word) (event : List Word) where
   judged_step (Err Twice) right f events h k j = absurd j
   judged_step (Err Leader) right f events h k j = absurd j
   judged_step (Err Full) right f events h k j = absurd j
+  judged_step (Err User) right f events h k j = absurd j
 
 -- a line of one word is no step
 no_event : (actor : Field) (events : List Form) → any_shape (map (step_form actor) events) (codes "step" ∷ []) ≡ false
@@ -104,9 +106,10 @@ step_judged siblings (actor ∷ event) =
 -- ---- lines after the head
 
 -- the forms of a line at this place
-abbrev pub forms_at : ℕ → Place → List Form
-forms_at siblings place =
-    cond (place.is_after_teach || place.is_after_step) [] (task_form siblings ∷ [])
+abbrev pub forms_at : ℕ → ℕ → Place → List Form
+forms_at version siblings place =
+    cond (not (eqb version 2) || place.is_after_task || place.is_after_teach || place.is_after_step) [] (user_form ∷ [])
+    ++ cond (place.is_after_teach || place.is_after_step) [] (task_form version siblings ∷ [])
     ++ cond place.is_after_step [] (teach_form ∷ [])
     ++ end_form ∷ step_forms siblings
 
@@ -119,10 +122,17 @@ then_judged f (Err Cut) forms words h = absurd h
 then_judged f (Err Twice) forms words h = absurd h
 then_judged f (Err Leader) forms words h = absurd h
 then_judged f (Err Full) forms words h = absurd h
+then_judged f (Err User) forms words h = absurd h
 
-module _ (siblings : ℕ) (place : Place) where
+module _ (version siblings : ℕ) (given : List Creds) (place : Place) where
+  abbrev late_user : Bool
+  late_user = not (eqb version 2) || place.is_after_task || place.is_after_teach || place.is_after_step
+
+  users : List Form
+  users = cond late_user [] (user_form ∷ [])
+
   tasks : List Form
-  tasks = cond (place.is_after_teach || place.is_after_step) [] (task_form siblings ∷ [])
+  tasks = cond (place.is_after_teach || place.is_after_step) [] (task_form version siblings ∷ [])
 
   teaches : List Form
   teaches = cond place.is_after_step [] (teach_form ∷ [])
@@ -131,12 +141,20 @@ module _ (siblings : ℕ) (place : Place) where
   others = end_form ∷ step_forms siblings
 
   abbrev Judges : List Word → Type 0
-  Judges words = Judged (line_of siblings place (parts words)) (forms_at siblings place) words
+  Judges words = Judged (line_of version siblings given place (parts words)) (forms_at version siblings place) words
+
+  no_users : (name : Word) (rest : List Word) → is_word name (codes "user") ≡ false → any_shape users (name ∷ rest) ≡ false
+  unfolding users has_shape
+  no_users name rest h =
+      elim late_user as (λ b. any_shape (cond b [] (user_form ∷ [])) (name ∷ rest) ≡ false) [
+        | true ↦ refl
+        | false ↦ rw h refl
+      ]
 
   no_tasks : (name : Word) (rest : List Word) → is_word name (codes "task") ≡ false → any_shape tasks (name ∷ rest) ≡ false
   unfolding tasks has_shape
   no_tasks name rest h =
-      elim (place.is_after_teach || place.is_after_step) as (λ b. any_shape (cond b [] (task_form siblings ∷ [])) (name ∷ rest) ≡ false) [
+      elim (place.is_after_teach || place.is_after_step) as (λ b. any_shape (cond b [] (task_form version siblings ∷ [])) (name ∷ rest) ≡ false) [
         | true ↦ refl
         | false ↦ rw h refl
       ]
@@ -153,14 +171,24 @@ module _ (siblings : ℕ) (place : Place) where
   unfolding others has_shape
   no_others name rest h k = rw (h, no_steps siblings name rest k) refl
 
-  task_judged : (rest : List Word) → Judged (task_line siblings place (parts (codes "task" ∷ rest))) tasks (codes "task" ∷ rest)
+  user_judged : (rest : List Word) → Judged (user_line version place (parts (codes "user" ∷ rest))) users (codes "user" ∷ rest)
+  unfolding users
+  user_judged rest =
+      let words = codes "user" ∷ rest in
+      let readings = (user_form, user_value) ∷ [] in
+      elim late_user as (λ b. Judged (cond b (Err Shape) (read_in readings (parts words) >>= λ user. Ok (forms.User user))) (cond b [] (user_form ∷ [])) words) [
+        | true ↦ refl
+        | false ↦ then_judged forms.User (read_in readings (parts words)) (user_form ∷ []) words (judged words readings)
+      ]
+
+  task_judged : (rest : List Word) → Judged (task_line version siblings given place (parts (codes "task" ∷ rest))) tasks (codes "task" ∷ rest)
   unfolding tasks
   task_judged rest =
       let words = codes "task" ∷ rest in
-      let readings = (task_form siblings, task_value) ∷ [] in
-      elim (place.is_after_teach || place.is_after_step) as (λ b. Judged (cond b (Err Shape) (read_in readings (parts words) >>= λ task. Ok (forms.Task task))) (cond b [] (task_form siblings ∷ [])) words) [
+      let readings = (task_form version siblings, task_value version given) ∷ [] in
+      elim (place.is_after_teach || place.is_after_step) as (λ b. Judged (cond b (Err Shape) (read_in readings (parts words) >>= λ task. Ok (forms.Task task))) (cond b [] (task_form version siblings ∷ [])) words) [
         | true ↦ refl
-        | false ↦ then_judged forms.Task (read_in readings (parts words)) (task_form siblings ∷ []) words (judged words readings)
+        | false ↦ then_judged forms.Task (read_in readings (parts words)) (task_form version siblings ∷ []) words (judged words readings)
       ]
 
   teach_judged : (rest : List Word) → Judged (teach_line place (parts (codes "teach" ∷ rest))) teaches (codes "teach" ∷ rest)
@@ -173,63 +201,83 @@ module _ (siblings : ℕ) (place : Place) where
         | false ↦ then_judged forms.Teach (read_in readings (parts words)) (teach_form ∷ []) words (judged words readings)
       ]
 
+  for_user : (rest : List Word) → Judges (codes "user" ∷ rest)
+  unfolding users tasks teaches others line_of
+  for_user rest =
+      let words = codes "user" ∷ rest in
+      let read = user_line version place (parts words) in
+      judged_before words (users ++ tasks ++ teaches) others read (no_others (codes "user") rest refl refl)
+      (judged_before words (users ++ tasks) teaches read (no_teaches (codes "user") rest refl)
+      (judged_before words users tasks read (no_tasks (codes "user") rest refl) (user_judged rest)))
+
   for_task : (rest : List Word) → Judges (codes "task" ∷ rest)
-  unfolding tasks teaches others line_of
+  unfolding users tasks teaches others line_of
   for_task rest =
       let words = codes "task" ∷ rest in
-      judged_before words (tasks ++ teaches) others (task_line siblings place (parts words)) (no_others (codes "task") rest refl refl)
-      (judged_before words tasks teaches (task_line siblings place (parts words)) (no_teaches (codes "task") rest refl) (task_judged rest))
+      let read = task_line version siblings given place (parts words) in
+      judged_before words (users ++ tasks ++ teaches) others read (no_others (codes "task") rest refl refl)
+      (judged_before words (users ++ tasks) teaches read (no_teaches (codes "task") rest refl)
+      (judged_after words users tasks read (no_users (codes "task") rest refl) (task_judged rest)))
+
+  settled_skipped : (name : Word) (rest : List Word) → is_word name (codes "user") ≡ false → is_word name (codes "task") ≡ false → any_shape (users ++ tasks) (name ∷ rest) ≡ false
+  settled_skipped name rest h k = (skipped users tasks (name ∷ rest) (no_users name rest h)).0 ∙ no_tasks name rest k
 
   for_teach : (rest : List Word) → Judges (codes "teach" ∷ rest)
-  unfolding tasks teaches others line_of
+  unfolding users tasks teaches others line_of
   for_teach rest =
       let words = codes "teach" ∷ rest in
-      judged_before words (tasks ++ teaches) others (teach_line place (parts words)) (no_others (codes "teach") rest refl refl)
-      (judged_after words tasks teaches (teach_line place (parts words)) (no_tasks (codes "teach") rest refl) (teach_judged rest))
+      judged_before words (users ++ tasks ++ teaches) others (teach_line place (parts words)) (no_others (codes "teach") rest refl refl)
+      (judged_after words (users ++ tasks) teaches (teach_line place (parts words)) (settled_skipped (codes "teach") rest refl refl) (teach_judged rest))
 
-  settings_skipped : (name : Word) (rest : List Word) → is_word name (codes "task") ≡ false → is_word name (codes "teach") ≡ false → any_shape (tasks ++ teaches) (name ∷ rest) ≡ false
-  settings_skipped name rest h k =
-      (skipped tasks teaches (name ∷ rest) (no_tasks name rest h)).0 ∙ no_teaches name rest k
+  settings_skipped : (name : Word) (rest : List Word) → is_word name (codes "user") ≡ false → is_word name (codes "task") ≡ false → is_word name (codes "teach") ≡ false → any_shape (users ++ tasks ++ teaches) (name ∷ rest) ≡ false
+  settings_skipped name rest h k l =
+      (skipped (users ++ tasks) teaches (name ∷ rest) (settled_skipped name rest h k)).0 ∙ no_teaches name rest l
 
   for_step : (rest : List Word) → Judges (codes "step" ∷ rest)
-  unfolding tasks teaches others has_shape line_of
+  unfolding users tasks teaches others has_shape line_of
   for_step rest =
       let words = codes "step" ∷ rest in
       let read = step_line siblings (parts words) >>= λ step. Ok (forms.Step step) in
-      judged_after words (tasks ++ teaches) others read (settings_skipped (codes "step") rest refl refl)
+      judged_after words (users ++ tasks ++ teaches) others read (settings_skipped (codes "step") rest refl refl refl)
       (judged_after words (end_form ∷ []) (step_forms siblings) read refl
       (then_judged forms.Step (step_line siblings (parts words)) (step_forms siblings) words (step_judged siblings rest)))
 
   for_end : (rest : List Word) → Judges (codes "end" ∷ rest)
-  unfolding tasks teaches others has_shape is_right_in is_right line_of
+  unfolding users tasks teaches others has_shape is_right_in is_right line_of
   for_end [] =
-      judged_after (codes "end" ∷ []) (tasks ++ teaches) others (Ok forms.End) (settings_skipped (codes "end") [] refl refl) (refl, refl)
+      judged_after (codes "end" ∷ []) (users ++ tasks ++ teaches) others (Ok forms.End) (settings_skipped (codes "end") [] refl refl refl) (refl, refl)
   for_end (word ∷ rest) =
       let words = codes "end" ∷ word ∷ rest in
       rw (ne_eqb (length words) 1 (λ e. omega arith))
-      (judged_after {A = ScenarioLine} words (tasks ++ teaches) others (Err Shape) (settings_skipped (codes "end") (word ∷ rest) refl refl) (no_steps siblings (codes "end") (word ∷ rest) refl))
+      (judged_after {A = ScenarioLine} words (users ++ tasks ++ teaches) others (Err Shape) (settings_skipped (codes "end") (word ∷ rest) refl refl refl) (no_steps siblings (codes "end") (word ∷ rest) refl))
 
-  for_none : (name : Word) (rest : List Word) → is_word name (codes "task") ≡ false → is_word name (codes "teach") ≡ false → is_word name (codes "step") ≡ false → is_word name (codes "end") ≡ false → Judges (name ∷ rest)
-  unfolding tasks teaches others line_of
-  for_none name rest h0 h1 h2 h3 =
-      rw (h0, h1, h2, h3)
-      (judged_after {A = ScenarioLine} (name ∷ rest) (tasks ++ teaches) others (Err Shape) (settings_skipped name rest h0 h1) (no_others name rest h3 h2))
+  for_none : (name : Word) (rest : List Word) → is_word name (codes "task") ≡ false → is_word name (codes "teach") ≡ false → is_word name (codes "step") ≡ false → is_word name (codes "user") ≡ false → is_word name (codes "end") ≡ false → Judges (name ∷ rest)
+  unfolding users tasks teaches others line_of
+  for_none name rest h0 h1 h2 h3 h4 =
+      rw (h0, h1, h2, h3, h4)
+      (judged_after {A = ScenarioLine} (name ∷ rest) (users ++ tasks ++ teaches) others (Err Shape) (settings_skipped name rest h3 h0 h1) (no_others name rest h4 h2))
 
-  by_name : (name : Word) (rest : List Word) (is0 is1 is2 is3 : Bool) → is_word name (codes "task") ≡ is0 → is_word name (codes "teach") ≡ is1 → is_word name (codes "step") ≡ is2 → is_word name (codes "end") ≡ is3 → Judges (name ∷ rest)
-  by_name name rest true is1 is2 is3 h0 h1 h2 h3 =
+  by_name : (name : Word) (rest : List Word) (is0 is1 is2 is3 is4 : Bool) → is_word name (codes "task") ≡ is0 → is_word name (codes "teach") ≡ is1 → is_word name (codes "step") ≡ is2 → is_word name (codes "user") ≡ is3 → is_word name (codes "end") ≡ is4 → Judges (name ∷ rest)
+  by_name name rest true is1 is2 is3 is4 h0 h1 h2 h3 h4 =
       subst (λ (w : Word). Judges (w ∷ rest)) (sym (word_is name (codes "task") h0)) (for_task rest)
-  by_name name rest false true is2 is3 h0 h1 h2 h3 =
+  by_name name rest false true is2 is3 is4 h0 h1 h2 h3 h4 =
       subst (λ (w : Word). Judges (w ∷ rest)) (sym (word_is name (codes "teach") h1)) (for_teach rest)
-  by_name name rest false false true is3 h0 h1 h2 h3 =
+  by_name name rest false false true is3 is4 h0 h1 h2 h3 h4 =
       subst (λ (w : Word). Judges (w ∷ rest)) (sym (word_is name (codes "step") h2)) (for_step rest)
-  by_name name rest false false false true h0 h1 h2 h3 =
-      subst (λ (w : Word). Judges (w ∷ rest)) (sym (word_is name (codes "end") h3)) (for_end rest)
-  by_name name rest false false false false h0 h1 h2 h3 = for_none name rest h0 h1 h2 h3
+  by_name name rest false false false true is4 h0 h1 h2 h3 h4 =
+      subst (λ (w : Word). Judges (w ∷ rest)) (sym (word_is name (codes "user") h3)) (for_user rest)
+  by_name name rest false false false false true h0 h1 h2 h3 h4 =
+      subst (λ (w : Word). Judges (w ∷ rest)) (sym (word_is name (codes "end") h4)) (for_end rest)
+  by_name name rest false false false false false h0 h1 h2 h3 h4 = for_none name rest h0 h1 h2 h3 h4
+
+  empty_users : any_shape users [] ≡ false
+  unfolding users has_shape
+  empty_users = elim late_user as (λ b. any_shape (cond b [] (user_form ∷ [])) [] ≡ false) [ true ↦ refl | false ↦ refl ]
 
   empty_tasks : any_shape tasks [] ≡ false
   unfolding tasks has_shape
   empty_tasks =
-      elim (place.is_after_teach || place.is_after_step) as (λ b. any_shape (cond b [] (task_form siblings ∷ [])) [] ≡ false) [ true ↦ refl | false ↦ refl ]
+      elim (place.is_after_teach || place.is_after_step) as (λ b. any_shape (cond b [] (task_form version siblings ∷ [])) [] ≡ false) [ true ↦ refl | false ↦ refl ]
 
   empty_teaches : any_shape teaches [] ≡ false
   unfolding teaches has_shape
@@ -241,8 +289,10 @@ module _ (siblings : ℕ) (place : Place) where
   empty_others = refl
 
   pub line_judged : (words : List Word) → Judges words
-  unfolding tasks teaches others line_of
+  unfolding users tasks teaches others line_of
   line_judged [] =
-      (skipped (tasks ++ teaches) others [] ((skipped tasks teaches [] empty_tasks).0 ∙ empty_teaches)).0 ∙ empty_others
+      (skipped (users ++ tasks ++ teaches) others []
+      ((skipped (users ++ tasks) teaches [] ((skipped users tasks [] empty_users).0 ∙ empty_tasks)).0 ∙ empty_teaches)).0
+      ∙ empty_others
   line_judged (name ∷ rest) =
-      by_name name rest (is_word name (codes "task")) (is_word name (codes "teach")) (is_word name (codes "step")) (is_word name (codes "end")) refl refl refl refl
+      by_name name rest (is_word name (codes "task")) (is_word name (codes "teach")) (is_word name (codes "step")) (is_word name (codes "user")) (is_word name (codes "end")) refl refl refl refl refl

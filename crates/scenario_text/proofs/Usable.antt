@@ -1,5 +1,5 @@
 -- Usable lines: what is spelled has words enough, and none is empty.
-use Rattle.std.proofs.Common.{◌≡◌, ℕ, suc, ◌<◌, ◌^◌, Bool, true, false, eqb, ◌∷◌, ◌++◌, length, refl, arith}
+use Rattle.std.proofs.Common.{◌≡◌, ℕ, suc, ◌<◌, ◌≤◌, ◌^◌, Bool, true, false, eqb, List, ◌∷◌, ◌++◌, length, refl, arith}
 use Rattle.std.specs.Prelude.{decimal, codes, ℤ, pos, negsuc}
 use Rattle.std.specs.Fmt.{signed_decimal}
 use Rattle.std.proofs.lemmas.Bool.{ne_eqb}
@@ -10,14 +10,17 @@ use Rattle.cs_types.specs.declared.event.Actor.{Actor}
 use Rattle.cs_types.specs.declared.event.Actor.TheVariants.{Sibling, Caller, End}
 use Rattle.cs_types.specs.declared.event.Event.{Event}
 use Rattle.cs_types.specs.declared.event.Event.TheVariants.{Turn, Resched, Block, Exit, Tick, Wake, Advance, Fork, Prctl, SetSched, Offline, Online, Load, Unload}
-use Rattle.cs_types.specs.Scenario.{IsWithin, IsPid, IsEvent, IsStep}
+use Rattle.cs_types.specs.declared.task.Creds.{Creds}
+use Rattle.cs_types.specs.Scenario.{IsWithin, IsPid, AreCreds, IsTask, IsEvent, IsStep}
 use Rattle.scenario_text.specs.declared.head.Head.{Head}
+use Rattle.scenario_text.specs.declared.task.TaskLine.{TaskLine}
 use Rattle.scenario_text.specs.declared.line.Place.{Place}
 use Rattle.scenario_text.specs.declared.line.ScenarioLine.{ScenarioLine}
 use Rattle.scenario_text.specs.declared.line.ScenarioLine.TheVariants as forms
-use Rattle.scenario_text.specs.Words.{Word, flag_word, policy_word, child_word, event_words}
-use Rattle.scenario_text.specs.Text.{step_words}
+use Rattle.scenario_text.specs.Words.{Word, flag_word, policy_word, user_words, child_word, event_words}
+use Rattle.scenario_text.specs.Text.{version_words, step_words}
 use Rattle.scenario_text.specs.Reading.{usable, IsHead, count_words, head_words}
+use Rattle.scenario_text.proofs.Tasks.{task_line_words}
 use Rattle.scenario_text.proofs.Forms.{line_words, IsLine}
 
 -- no word is empty
@@ -74,38 +77,74 @@ usable_step siblings few (Sibling i) event is = usable_event siblings few (codes
 usable_step siblings few (Caller j) event is = usable_event siblings few (codes "c" ++ decimal j) event is.event (ne_eqb _ 0 (λ e. omega arith))
 usable_step siblings few End event is = absurd is.actor
 
-pub usable_line : (siblings : ℕ) → siblings < 256 → (place : Place) (line : ScenarioLine) → IsLine siblings place line → usable (line_words line) ≡ true
-usable_line siblings few place (forms.Task task) is =
-    let creds = task.creds in
+usable_user : (number : ℕ) (creds : Creds) → number ≤ 255 → AreCreds creds → usable (user_words number creds) ≡ true
+usable_user number creds few is =
     rw (
-      some_number task.pid (omega (arith, is.0.pid)),
-      some_number task.tgid (omega (arith, is.0.tgid)),
-      some_number task.pgid (omega (arith, is.0.pgid)),
-      some_number task.cpu (omega (arith, is.0.cpu)),
-      some_policy task.policy,
-      some_number creds.ruid (omega (arith, is.0.creds.ruid)),
-      some_number creds.euid (omega (arith, is.0.creds.euid)),
-      some_number creds.suid (omega (arith, is.0.creds.suid)),
-      some_number creds.rgid (omega (arith, is.0.creds.rgid)),
-      some_number creds.egid (omega (arith, is.0.creds.egid)),
-      some_number creds.sgid (omega (arith, is.0.creds.sgid)),
+      some_number number (omega arith),
+      some_number creds.ruid (omega (arith, is.ruid)),
+      some_number creds.euid (omega (arith, is.euid)),
+      some_number creds.suid (omega (arith, is.suid)),
+      some_number creds.rgid (omega (arith, is.rgid)),
+      some_number creds.egid (omega (arith, is.egid)),
+      some_number creds.sgid (omega (arith, is.sgid)),
       some_flag creds.cap,
       some_flag creds.mm,
       some_flag creds.dumpable,
     ) refl
-usable_line siblings few place (forms.Teach teach) is =
+
+module _ (siblings : ℕ) (few : siblings < 256) (task : TaskLine) (is : IsTask siblings task.spec) where
+  usable_task : (version : ℕ) (second : Bool) → eqb version 2 ≡ second → task.user ≤ 255 → usable (task_line_words version task) ≡ true
+  usable_task version true two small =
+      let spec = task.spec in
+      rw (
+        two,
+        some_number spec.pid (omega (arith, is.pid)),
+        some_number spec.tgid (omega (arith, is.tgid)),
+        some_number spec.pgid (omega (arith, is.pgid)),
+        some_number spec.cpu (omega (arith, is.cpu)),
+        some_policy spec.policy,
+        some_number task.user (omega arith),
+      ) refl
+  usable_task version false one small =
+      let spec = task.spec in
+      let creds = spec.creds in
+      rw (
+        one,
+        some_number spec.pid (omega (arith, is.pid)),
+        some_number spec.tgid (omega (arith, is.tgid)),
+        some_number spec.pgid (omega (arith, is.pgid)),
+        some_number spec.cpu (omega (arith, is.cpu)),
+        some_policy spec.policy,
+        some_number creds.ruid (omega (arith, is.creds.ruid)),
+        some_number creds.euid (omega (arith, is.creds.euid)),
+        some_number creds.suid (omega (arith, is.creds.suid)),
+        some_number creds.rgid (omega (arith, is.creds.rgid)),
+        some_number creds.egid (omega (arith, is.creds.egid)),
+        some_number creds.sgid (omega (arith, is.creds.sgid)),
+        some_flag creds.cap,
+        some_flag creds.mm,
+        some_flag creds.dumpable,
+      ) refl
+
+pub usable_line : (version siblings : ℕ) (users : List Creds) → siblings < 256 → (place : Place) (line : ScenarioLine) → IsLine version siblings users place line → usable (line_words version line) ≡ true
+usable_line version siblings users few place (forms.User user) is = usable_user user.number user.creds is.0 is.1
+usable_line version siblings users few place (forms.Task task) is = usable_task siblings few task is.0 version (eqb version 2) refl is.1.few
+usable_line version siblings users few place (forms.Teach teach) is =
     rw (
       some_number teach.guard (omega (arith, is.0.guard)),
       some_number teach.from (omega (arith, is.0.from)),
       some_number teach.to (omega (arith, is.0.to)),
     ) refl
-usable_line siblings few place (forms.Step step) is = usable_step siblings few step.actor step.event is
-usable_line siblings few place forms.End is = refl
+usable_line version siblings users few place (forms.Step step) is = usable_step siblings few step.actor step.event is
+usable_line version siblings users few place forms.End is = refl
 
 -- the lines of a head
 
-pub usable_count : (siblings : ℕ) → IsWithin 1 8 siblings → usable (count_words siblings) ≡ true
-usable_count siblings is = rw (some_number siblings (omega arith)) refl
+pub usable_version : (version : ℕ) → IsWithin 1 2 version → usable (version_words version) ≡ true
+usable_version version is = rw (some_number version (omega (arith, is))) refl
+
+pub usable_count : (siblings : ℕ) → siblings < 256 → usable (count_words siblings) ≡ true
+usable_count siblings few = rw (some_number siblings (omega arith)) refl
 
 pub usable_limits : (head : Head) → IsHead head → usable (head_words head) ≡ true
 usable_limits head is =

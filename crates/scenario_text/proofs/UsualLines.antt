@@ -1,5 +1,5 @@
 -- UsualLines: a text that begins with the line of a step, put together from what was found at its front.
-use Rattle.std.proofs.Common.{w32, ℤ, zero, suc, ◌≡◌, ℕ, ◌≤◌, ◌<◌, ◌+◌, ◌-◌, ◌^◌, true, eqb, List, [], ◌∷◌, ◌++◌, length, take, drop, get_or, Some, Ok, Err, false, refl, sym, ap, subst, ◌∙◌, append_assoc, take_all, zero-le, arith}
+use Rattle.std.proofs.Common.{w32, ℤ, zero, suc, ◌≡◌, ℕ, ◌≤◌, ◌<◌, ◌+◌, ◌-◌, ◌^◌, ◌/◌, ◌%◌, true, eqb, List, [], ◌∷◌, ◌++◌, length, take, drop, get_or, Some, Ok, Err, false, refl, sym, ap, subst, ◌∙◌, append_assoc, take_all, zero-le, arith}
 use mir.Val.{to_z}
 use Rattle.std.specs.Borrow.{Bor}
 use Rattle.std.specs.Prelude.{◌&&◌, ◌||◌, not, codes, decimal, MatchResult}
@@ -8,7 +8,7 @@ use Rattle.std.specs.Fmt.{signed_decimal}
 use Rattle.std.specs.List.{AllByRecursion, join_with_byte}
 use Rattle.std.specs.Str.{all_ascii_digits}
 use Rattle.std.specs.Result.{result_ok}
-use Rattle.std.proofs.lemmas.Fmt.{decimal_digit}
+use Rattle.std.proofs.lemmas.Fmt.{decimal_digit, decimal_step}
 use Rattle.std.proofs.lemmas.Int.{to_z_pos}
 use Rattle.std.proofs.lemmas.List.{length-drop}
 use Rattle.std.proofs.lemmas.Bool.Decides.{nat_tests}
@@ -36,6 +36,7 @@ use Rattle.scenario_text.proofs.Fields.{behind_first, policy_is}
 use Rattle.scenario_text.proofs.Cuts.{has_piece, line_at-lines_in, lent_is}
 use Rattle.scenario_text.proofs.Texts.{IsPlain, words_in-spaced, spaced_lacks, all_lack}
 use Rattle.scenario_text.proofs.Forms.{line_again}
+use Rattle.scenario_text.proofs.Drafts.{siblings_within}
 use Rattle.scenario_text.proofs.Steps.{by}
 use Rattle.scenario_text.proofs.Usable.{usable_step}
 use Rattle.scenario_text.proofs.Plain.{plain_step}
@@ -60,10 +61,10 @@ step_line_is siblings text rest step few found =
 
 -- is checked like any line
 pub next_checked : (head : Head) → IsHead head → (plan : Contents) (lines rest : List (List Word)) (step : Step) → IsStep head.siblings step → line_at lines ≡ Ok (step_words step, rest) →
-    (checked : Read (Unit {0})) → checked ≡ line_check head.task_limit (forms.Step step) plan → next_of head plan lines ≡ (checked >>= λ follows. Ok (forms.Step step, rest))
+    (checked : Read (Unit {0})) → checked ≡ line_check head.version head.task_limit (forms.Step step) plan → next_of head plan lines ≡ (checked >>= λ follows. Ok (forms.Step step, rest))
 unfolding next_of
 next_checked head is plan lines rest step fits taken checked by =
-    rw (taken, line_again head.siblings (place_after plan) (forms.Step step) (let most = is.siblings in omega arith) fits, by) refl
+    rw (taken, line_again head.version head.siblings plan.users (place_after plan) (let most = siblings_within head is in omega arith) (forms.Step step) fits, by) refl
 
 -- a line that is not usual: it is none, it has no form, or it is checked
 module _ (head : Head) (plan : Contents) (lines rest : List (List Word)) where
@@ -72,14 +73,14 @@ module _ (head : Head) (plan : Contents) (lines rest : List (List Word)) where
   untaken kind e = rw e refl
 
   module _ (words : List (Bor Word)) (taken : line_at lines ≡ Ok (texts words, rest)) (place : Place) (there : place ≡ place_after plan) where
-    pub formless : (kind : BadKind) → Err kind ≡ line_of head.siblings place (lent words) → next_of head plan lines ≡ Err kind
+    pub formless : (kind : BadKind) → Err kind ≡ line_of head.version head.siblings plan.users place (lent words) → next_of head plan lines ≡ Err kind
     unfolding next_of
-    formless kind e = rw (taken, sym there, sym (e ∙ ap (line_of head.siblings place) (lent_is words))) refl
+    formless kind e = rw (taken, sym there, sym (e ∙ ap (line_of head.version head.siblings plan.users place) (lent_is words))) refl
 
-    pub line_checked : (line : ScenarioLine) → Ok line ≡ line_of head.siblings place (lent words) →
-        (checked : Read (Unit {0})) → checked ≡ line_check head.task_limit line plan → next_of head plan lines ≡ (checked >>= λ follows. Ok (line, rest))
+    pub line_checked : (line : ScenarioLine) → Ok line ≡ line_of head.version head.siblings plan.users place (lent words) →
+        (checked : Read (Unit {0})) → checked ≡ line_check head.version head.task_limit line plan → next_of head plan lines ≡ (checked >>= λ follows. Ok (line, rest))
     unfolding next_of
-    line_checked line e checked by = rw (taken, sym there, sym (e ∙ ap (line_of head.siblings place) (lent_is words)), by) refl
+    line_checked line e checked by = rw (taken, sym there, sym (e ∙ ap (line_of head.version head.siblings plan.users place) (lent_is words)), by) refl
 
 -- ---- as the code finds it
 
@@ -129,6 +130,24 @@ last_policy_is text word rest (Ok p) said cut spelled is =
 pub digit_before_is : (high n end : ℕ) (text rest : List ℕ) → n < 10 → n ≤ high → text ≡ (48 + n) ∷ end ∷ rest → BeginsNumber 0 high text n end rest
 digit_before_is high n end text rest small most is =
     record { within = (zero-le, most); spelled = is ∙ ap (λ (w : List ℕ). w ++ end ∷ rest) (sym (decimal_digit n small)) }
+
+-- the two digits of a number from 10 to 19
+ten_and : (unit : ℕ) → unit < 10 → decimal (10 + unit) ≡ 49 ∷ (48 + unit) ∷ []
+ten_and unit small =
+    let tens : (10 + unit) / 10 ≡ 1 = omega (arith, small) in
+    let units : (10 + unit) % 10 ≡ unit = omega (arith, small) in
+    decimal_step (10 + unit) (omega arith) (omega arith)
+    ∙ (λ i. decimal (tens i) ++ (48 + units i) ∷ [])
+    ∙ ap (λ (w : List ℕ). w ++ (48 + unit) ∷ []) (decimal_digit 1 (omega arith))
+
+-- two digits before a byte, the first of which is 1
+pub two_digits_before : (high unit end : ℕ) (text units rest : List ℕ) → text ≡ 49 ∷ units → BeginsNumber 0 9 units unit end rest → 10 + unit ≤ high → BeginsNumber 0 high text (10 + unit) end rest
+two_digits_before high unit end text units rest is found most =
+    let small : unit < 10 = omega (arith, found.within.1) in
+    record {
+      within = (zero-le, most);
+      spelled = is ∙ ap (λ (w : List ℕ). 49 ∷ w) (found.spelled ∙ ap (λ (w : List ℕ). w ++ end ∷ rest) (decimal_digit unit small)) ∙ ap (λ (w : List ℕ). w ++ end ∷ rest) (sym (ten_and unit small));
+    }
 
 -- what stands behind the first bytes of a text is all of it
 whole : (n : ℕ) (text : List ℕ) → drop n text ≡ behind_first n text

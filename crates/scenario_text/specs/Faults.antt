@@ -1,10 +1,10 @@
 -- Faults: what is wrong with a line, by the lines before it, and which line of a text is the first bad one.
-use Rattle.std.specs.Prelude.{◌≡◌, ℕ, ◌-◌, ◌<◌, ◌≤◌, Bool, true, false, ◌&&◌, ◌||◌, ◌==◌, not, nat_le, if◌then◌else◌, List, [], ◌∷◌, ◌++◌, length, filter, map, take, drop, codes, Option, Some, None, slice_index_or}
+use Rattle.std.specs.Prelude.{◌≡◌, ℕ, ◌-◌, ◌<◌, ◌≤◌, Bool, true, false, ◌&&◌, ◌||◌, ◌==◌, not, nat_le, nat_lt, if◌then◌else◌, List, [], ◌∷◌, ◌++◌, length, filter, map, take, drop, codes, Option, Some, None, slice_index_or}
 use Rattle.std.specs.List.{slice_split, list_any}
 use Rattle.scenario_text.specs.declared.fault.BadKind.{BadKind}
-use Rattle.scenario_text.specs.declared.fault.BadKind.TheVariants.{Cut, After, Shape, Number, Twice, Leader, Full}
+use Rattle.scenario_text.specs.declared.fault.BadKind.TheVariants.{Cut, After, Shape, Number, Twice, Leader, Full, User}
 use Rattle.scenario_text.specs.Words.{Word}
-use Rattle.scenario_text.specs.Grammar.{is_word, value, Form, has_shape, is_right, version_form, siblings_form, limits_form, task_form, teach_form, end_form, step_forms}
+use Rattle.scenario_text.specs.Grammar.{is_word, value, Form, has_shape, is_right, version_forms, siblings_form, limits_form, user_form, task_form, teach_form, end_form, step_forms}
 
 -- ---- lines, each as its words
 
@@ -38,14 +38,19 @@ has_named name lines = list_any (is_named name) lines
 
 -- ---- Shape: the line has none of the forms that may stand in its place
 
--- The forms that may come after these lines: first the three of the head, in their order; then tasks before teach
--- lines, and these before steps, in a core with as many siblings as the second line says.
+-- The forms that may come after these lines: first the three of the head, in their order; then users, in version 2,
+-- before tasks, these before teach lines, and these before steps, in a core with as many siblings as the second line says.
 abbrev pub forms_after : List (List Word) → List Form
-forms_after [] = version_form ∷ []
-forms_after (version ∷ []) = siblings_form ∷ []
+forms_after [] = version_forms
+forms_after (version ∷ []) = siblings_form (value (word_at 1 version)) ∷ []
 forms_after (version ∷ siblings ∷ []) = limits_form ∷ []
 forms_after (version ∷ siblings ∷ limits ∷ before) =
-    (if has_named (codes "teach") before || has_named (codes "step") before then [] else task_form (value (word_at 1 siblings)) ∷ [])
+    (if not (value (word_at 1 version) == 2) || has_named (codes "task") before || has_named (codes "teach") before || has_named (codes "step") before
+    then []
+    else user_form ∷ [])
+    ++ (if has_named (codes "teach") before || has_named (codes "step") before
+    then []
+    else task_form (value (word_at 1 version)) (value (word_at 1 siblings)) ∷ [])
     ++ (if has_named (codes "step") before then [] else teach_form ∷ [])
     ++ end_form ∷ step_forms (value (word_at 1 siblings))
 
@@ -60,7 +65,7 @@ unfoldable pub is_right_in : List Form → List Word → Bool
 is_right_in [] line = true
 is_right_in (form ∷ forms) line = if has_shape form line then is_right form line else is_right_in forms line
 
--- ---- Twice, Leader and Full: the line does not go with those before it
+-- ---- Twice, Leader, Full and User: the line does not go with those before it
 
 -- whether the two lines have the same word at these places
 abbrev pub same_word : ℕ → List Word → ℕ → List Word → Bool
@@ -91,6 +96,50 @@ is_full before line =
     || is_past (codes "teach") 64 before line
     || is_past (codes "step") 100000 before line
 
+-- whether two user lines have the same nine values
+abbrev pub same_values : List Word → List Word → Bool
+same_values user other =
+    same_word 2 user 2 other && same_word 3 user 3 other && same_word 4 user 4 other
+    && same_word 5 user 5 other && same_word 6 user 6 other && same_word 7 user 7 other
+    && same_word 8 user 8 other && same_word 9 user 9 other && same_word 10 user 10 other
+
+-- whether a task line of version 2 names the user of a user line
+abbrev pub names : List Word → List Word → Bool
+names task user = same_word 6 task 1 user
+
+-- those of these user lines whose users some of the task lines name
+abbrev pub users_named : List (List Word) → List (List Word) → List (List Word)
+users_named tasks users = filter (λ user. list_any (λ task. names task user) tasks) users
+
+-- a user line whose number is not the number of those before it, or whose nine values one of these has
+abbrev pub is_other_user : List (List Word) → List Word → Bool
+is_other_user users line = not (value (word_at 1 line) == length users) || list_any (same_values line) users
+
+-- a task line that names no user, or one too early: users come in the order in which the tasks first name them
+abbrev pub is_early_user : List (List Word) → List (List Word) → List Word → Bool
+is_early_user tasks users line =
+    not (list_any (names line) users) || nat_lt (length (users_named tasks users)) (value (word_at 6 line))
+
+-- a line after those of the tasks, while some user is named by none of them
+abbrev pub is_unnamed_user : List (List Word) → List (List Word) → Bool
+is_unnamed_user tasks users = nat_lt (length (users_named tasks users)) (length users)
+
+-- whether the text has version 2
+abbrev pub has_users : List (List Word) → Bool
+has_users before = value (word_at 1 (slice_index_or before 0 [])) == 2
+
+-- the line breaks one of the rules of users, which version 2 has
+abbrev pub is_wrong_user : List (List Word) → List Word → Bool
+is_wrong_user before line =
+    let tasks = named (codes "task") before in
+    let users = named (codes "user") before in
+    has_users before
+    && (if is_named (codes "user") line
+    then is_other_user users line
+    else (if is_named (codes "task") line
+    then is_early_user tasks users line
+    else is_unnamed_user tasks users))
+
 -- ---- the first bad line
 
 -- whether the line `end` is one of these
@@ -113,6 +162,7 @@ line_kind before line later =
     ∷ (is_twice before line, Twice)
     ∷ (is_unled before line, Leader)
     ∷ (is_full before line, Full)
+    ∷ (is_wrong_user before line, User)
     ∷ []
     )
 

@@ -3,6 +3,7 @@ use Rattle.std.specs.Prelude.{ℕ, ◌-◌, Bool, true, false, ◌&&◌, ◌||�
 use Rattle.std.specs.Char.{is_ascii_digit}
 use Rattle.std.specs.Str.{all_ascii_digits, bytes_eq}
 use Rattle.std.specs.Str.Parse.{digits_value}
+use Rattle.cs_types.specs.Scenario.{most_siblings}
 use Rattle.scenario_text.specs.Words.{Word}
 
 -- ---- words
@@ -109,6 +110,10 @@ id = number 0 65535
 abbrev pub guard : Field
 guard = number 0 15
 
+-- the number of a user, the credentials that tasks of version 2 share
+abbrev pub user : Field
+user = number 0 255
+
 -- what a child is
 abbrev pub child : Field
 child = one_of (keyword (codes "thread") ∷ keyword (codes "process") ∷ [])
@@ -143,12 +148,16 @@ is_right [] words = true
 is_right (field ∷ fields) [] = true
 is_right (field ∷ fields) (word ∷ words) = field.is_right word && is_right fields words
 
-abbrev pub version_form : Form
-version_form = keyword (codes "coresched") ∷ keyword (codes "1") ∷ []
+-- `coresched` VERSION
+abbrev pub version_form : Word → Form
+version_form version = keyword (codes "coresched") ∷ keyword version ∷ []
 
--- `siblings` COUNT
-abbrev pub siblings_form : Form
-siblings_form = keyword (codes "siblings") ∷ number 1 8 ∷ []
+abbrev pub version_forms : List Form
+version_forms = version_form (codes "1") ∷ version_form (codes "2") ∷ []
+
+-- `siblings` COUNT, in a text of this version
+abbrev pub siblings_form : ℕ → Form
+siblings_form version = keyword (codes "siblings") ∷ number 1 (most_siblings version) ∷ []
 
 -- `limits` TASKS COOKIES TOP
 abbrev pub limits_form : Form
@@ -158,9 +167,17 @@ limits_form = keyword (codes "limits") ∷ number 1 256 ∷ number 1 256 ∷ num
 abbrev pub creds_form : Form
 creds_form = id ∷ id ∷ id ∷ id ∷ id ∷ id ∷ flag ∷ flag ∷ flag ∷ []
 
--- `task` PID TGID PGID CPU POLICY and the credentials
-abbrev pub task_form : ℕ → Form
-task_form siblings = keyword (codes "task") ∷ pid ∷ pid ∷ pid ∷ sibling siblings ∷ policy ∷ creds_form
+-- `user` U and the credentials, in version 2 alone
+abbrev pub user_form : Form
+user_form = keyword (codes "user") ∷ user ∷ creds_form
+
+-- whose credentials a task has: in version 1 they stand there, in version 2 the number of the user who has them
+abbrev pub owner_form : ℕ → Form
+owner_form version = if version == 2 then user ∷ [] else creds_form
+
+-- `task` PID TGID PGID CPU POLICY and the owner
+abbrev pub task_form : ℕ → ℕ → Form
+task_form version siblings = keyword (codes "task") ∷ pid ∷ pid ∷ pid ∷ sibling siblings ∷ policy ∷ owner_form version
 
 -- `teach` GUARD FROM TO
 abbrev pub teach_form : Form

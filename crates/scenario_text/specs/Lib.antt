@@ -5,3 +5,4 @@ pub mod Faults
 pub mod Reader
 pub mod Reading
 pub mod Entry
+pub mod Upgrade

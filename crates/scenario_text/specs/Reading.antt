@@ -1,5 +1,5 @@
 -- Reading: what the words of a line are read as, by the forms that the line may have.
-use Rattle.std.specs.Prelude.{◌≡◌, ◌≤◌, ◌<◌, ℕ, suc, ◌+◌, ◌-◌, Bool, true, ◌&&◌, ◌||◌, ◌==◌, not, nat_le, nat_lt, ℤ, pos, negsuc, if◌then◌else◌, List, [], ◌∷◌, ◌++◌, length, map, take, drop, All, decimal, slice_index_or, None, codes, Result, Ok, Err}
+use Rattle.std.specs.Prelude.{◌≡◌, ◌≤◌, ◌<◌, ℕ, suc, ◌+◌, ◌-◌, Bool, true, false, ◌&&◌, ◌||◌, ◌==◌, not, nat_le, nat_lt, ℤ, pos, negsuc, if◌then◌else◌, List, [], ◌∷◌, ◌++◌, length, map, take, drop, All, AllPairs, decimal, slice_index_or, None, codes, Result, Ok, Err}
 use Rattle.std.specs.List.{list_any}
 use Rattle.std.specs.Borrow.{Bor}
 use Rattle.std.specs.Fmt.{signed_decimal}
@@ -15,20 +15,22 @@ use Rattle.cs_types.specs.declared.event.Event.TheVariants.{Turn, Resched, Block
 use Rattle.cs_types.specs.declared.event.Step.{Step}
 use Rattle.cs_types.specs.declared.scenario.Teach.{Teach}
 use Rattle.cs_types.specs.declared.scenario.Scenario.{Scenario}
-use Rattle.cs_types.specs.Scenario.{IsWithin, IsPolicy, IsPid, IsAsk, IsTask, AreDistinct, AreLed, IsTeach, AreNumbered, IsStep, IsValid}
+use Rattle.cs_types.specs.Scenario.{IsWithin, IsPolicy, IsPid, IsAsk, AreCreds, is_user, most_siblings, IsTask, AreDistinct, AreLed, IsTeach, AreNumbered, IsStep, IsValid}
 use Rattle.scenario_text.specs.declared.fault.BadKind.{BadKind}
-use Rattle.scenario_text.specs.declared.fault.BadKind.TheVariants.{Cut, Shape, Number, Twice, Leader, Full}
+use Rattle.scenario_text.specs.declared.fault.BadKind.TheVariants.{Cut, Shape, Number, Twice, Leader, Full, User}
 use Rattle.scenario_text.specs.declared.head.Head.{Head}
 use Rattle.scenario_text.specs.declared.line.Place.{Place}
+use Rattle.scenario_text.specs.declared.task.UserLine.{UserLine}
+use Rattle.scenario_text.specs.declared.task.TaskLine.{TaskLine}
 use Rattle.scenario_text.specs.declared.line.ScenarioLine.{ScenarioLine}
 use Rattle.scenario_text.specs.declared.line.ScenarioLine.TheVariants as forms
 use Rattle.scenario_text.specs.declared.plan.Plan.{Plan}
 use Rattle.scenario_text.specs.declared.fault.ReadFault.{ReadFault}
-use Rattle.scenario_text.specs.Words.{Word, policy_word, task_words, teach_words, actor_word, ask_words, event_words}
-use Rattle.scenario_text.specs.Text.{line, version_words, step_words, end_words, scenario_lines}
+use Rattle.scenario_text.specs.Words.{Word, policy_word, teach_words, actor_word, ask_words, event_words}
+use Rattle.scenario_text.specs.Text.{line, version_words, users_words, task_words_in, users_in, step_words, end_words, scenario_lines}
 use Rattle.scenario_text.specs.Faults.{kind_of}
 use Rattle.scenario_text.specs.Reader.{Tells}
-use Rattle.scenario_text.specs.Grammar.{is_word, begins, behind, has_minus, value, is_number, u32, i32, u64, Form, version_form, siblings_form, limits_form, task_form, teach_form, alone, wake_form, advance_form, fork_form, prctl_form, setsched_form, cpu_form, guard_form}
+use Rattle.scenario_text.specs.Grammar.{is_word, begins, behind, has_minus, value, is_number, u32, i32, u64, Form, version_form, siblings_form, limits_form, user_form, task_form, teach_form, alone, wake_form, advance_form, fork_form, prctl_form, setsched_form, cpu_form, guard_form}
 
 -- words, as a pattern sees them: how many there are, and the word at each place from 0
 pub record Parts : Type 0 where
@@ -107,16 +109,39 @@ creds_value words =
       dumpable = flag_value (words.at 8);
     }
 
--- what the fields of a task line say
-abbrev pub task_value : Parts → TaskSpec
-task_value words =
+-- what the fields of a user line say
+abbrev pub user_value : Parts → UserLine
+user_value words = record { number = value (words.at 1); creds = creds_value (after 2 words) }
+
+-- what stands for the credentials of a user that is not there
+abbrev pub nobody : Creds
+nobody = record { ruid = 0; euid = 0; suid = 0; rgid = 0; egid = 0; sgid = 0; cap = false; mm = false; dumpable = false }
+
+-- the credentials of the user of this number
+abbrev pub user_at : List Creds → ℕ → Creds
+user_at users number = slice_index_or users number nobody
+
+-- whose credentials the words after a policy name: in version 2 those of one of these users, whose number is told too
+abbrev pub owner_value : ℕ → List Creds → Parts → UserLine
+owner_value version users words =
+    if version == 2
+    then record { number = value (words.at 0); creds = user_at users (value (words.at 0)) }
+    else record { number = 0; creds = creds_value words }
+
+-- what the fields of a task line say, beside these users
+abbrev pub task_value : ℕ → List Creds → Parts → TaskLine
+task_value version users words =
+    let owner = owner_value version users (after 6 words) in
     record {
-      pid = value (words.at 1);
-      tgid = value (words.at 2);
-      pgid = value (words.at 3);
-      cpu = value (words.at 4);
-      policy = policy_value (words.at 5);
-      creds = creds_value (after 6 words);
+      spec = record {
+        pid = value (words.at 1);
+        tgid = value (words.at 2);
+        pgid = value (words.at 3);
+        cpu = value (words.at 4);
+        policy = policy_value (words.at 5);
+        creds = owner.creds;
+      };
+      user = owner.number;
     }
 
 -- what the fields of a teach line say, which is the line of this number
@@ -221,23 +246,30 @@ AreGood lines count = (k : ℕ) → k < count → kind_of (take k lines) (drop k
 
 -- ---- the head
 
-abbrev pub version_reading : Readings (Unit {0})
-version_reading = (version_form, λ words. tt) ∷ []
+abbrev pub version_reading : Readings ℕ
+version_reading = (version_form (codes "1"), λ words. 1) ∷ (version_form (codes "2"), λ words. 2) ∷ []
 
-abbrev pub siblings_reading : Readings ℕ
-siblings_reading = (siblings_form, λ words. value (words.at 1)) ∷ []
+abbrev pub siblings_reading : ℕ → Readings ℕ
+siblings_reading version = (siblings_form version, λ words. value (words.at 1)) ∷ []
 
--- what the fields of the third line say, in a core with this number of siblings
-abbrev pub head_value : ℕ → Parts → Head
-head_value siblings words =
-    record { siblings = siblings; task_limit = value (words.at 1); cookie_limit = value (words.at 2); user_top = value (words.at 3) }
+-- what the fields of the third line say, in a text of this version and a core with this number of siblings
+abbrev pub head_value : ℕ → ℕ → Parts → Head
+head_value version siblings words =
+    record {
+      version = version;
+      siblings = siblings;
+      task_limit = value (words.at 1);
+      cookie_limit = value (words.at 2);
+      user_top = value (words.at 3);
+    }
 
-abbrev pub limits_reading : ℕ → Readings Head
-limits_reading siblings = (limits_form, head_value siblings) ∷ []
+abbrev pub limits_reading : ℕ → ℕ → Readings Head
+limits_reading version siblings = (limits_form, head_value version siblings) ∷ []
 
 -- the numbers of a head
 pub record IsHead (head : Head) : Type 0 where
-  pub siblings : IsWithin 1 8 head.siblings
+  pub version : IsWithin 1 2 head.version
+  pub siblings : IsWithin 1 (most_siblings head.version) head.siblings
   pub task_limit : IsWithin 1 256 head.task_limit
   pub cookie_limit : IsWithin 1 256 head.cookie_limit
   pub user_top : IsWithin 8192 9223372036854775807 head.user_top
@@ -252,7 +284,7 @@ head_words head =
     codes "limits" ∷ decimal head.task_limit ∷ decimal head.cookie_limit ∷ decimal head.user_top ∷ []
 
 abbrev pub head_lines : Head → List (List Word)
-head_lines head = version_words ∷ count_words head.siblings ∷ head_words head ∷ []
+head_lines head = version_words head.version ∷ count_words head.siblings ∷ head_words head ∷ []
 
 -- the head of these lines, with the lines that are left; or their first bad line
 abbrev pub ReadsHead : List (List Word) → Result Head ReadFault → List (List Word) → Type 0
@@ -261,13 +293,20 @@ ReadsHead lines (Err fault) rest = Tells lines fault
 
 -- ---- the lines after the head
 
--- what a line at this place may be, in a core with this number of siblings
+-- what a line at this place may be, in a text of this version, beside these users and in a core with this number of
+-- siblings
 
-abbrev pub task_line : ℕ → Place → Parts → Read ScenarioLine
-task_line siblings place words =
+abbrev pub user_line : ℕ → Place → Parts → Read ScenarioLine
+user_line version place words =
+    if not (version == 2) || place.is_after_task || place.is_after_teach || place.is_after_step
+    then Err Shape
+    else (read_in ((user_form, user_value) ∷ []) words >>= λ user. Ok (forms.User user))
+
+abbrev pub task_line : ℕ → ℕ → List Creds → Place → Parts → Read ScenarioLine
+task_line version siblings users place words =
     if place.is_after_teach || place.is_after_step
     then Err Shape
-    else (read_in ((task_form siblings, task_value) ∷ []) words >>= λ task. Ok (forms.Task task))
+    else (read_in ((task_form version siblings, task_value version users) ∷ []) words >>= λ task. Ok (forms.Task task))
 
 abbrev pub teach_line : Place → Parts → Read ScenarioLine
 teach_line place words =
@@ -285,31 +324,39 @@ step_line siblings words =
     else Err Shape))
     else Err Shape
 
-unfoldable pub line_of : ℕ → Place → Parts → Read ScenarioLine
-line_of siblings place words =
+unfoldable pub line_of : ℕ → ℕ → List Creds → Place → Parts → Read ScenarioLine
+line_of version siblings users place words =
     if is_word (words.at 0) (codes "step")
     then (step_line siblings words >>= λ step. Ok (forms.Step step))
     else (if is_word (words.at 0) (codes "task")
-    then task_line siblings place words
+    then task_line version siblings users place words
     else (if is_word (words.at 0) (codes "teach")
     then teach_line place words
-    else (if is_word (words.at 0) (codes "end") && words.count == 1 then Ok forms.End else Err Shape)))
+    else (if is_word (words.at 0) (codes "user")
+    then user_line version place words
+    else (if is_word (words.at 0) (codes "end") && words.count == 1 then Ok forms.End else Err Shape))))
 
--- ---- the plan: the tasks, the teach lines and the steps that are read
+-- ---- the plan: the users, the tasks, the teach lines and the steps that are read
 
 pub record Contents : Type 0 where
+  pub users : List Creds
   pub tasks : List TaskSpec
   pub teaches : List Teach
   pub steps : List Step
 
 abbrev pub contents : Plan → Contents
-contents plan = record { tasks = plan.tasks.items; teaches = plan.teaches.items; steps = plan.steps.items }
+contents plan = record { users = plan.users.items; tasks = plan.tasks.items; teaches = plan.teaches.items; steps = plan.steps.items }
+
+-- the plan with one task more
+abbrev pub with_task : TaskSpec → Contents → Contents
+with_task task plan = record plan { tasks = plan.tasks ++ task ∷ [] }
 
 abbrev pub nothing_planned : Contents
-nothing_planned = record { tasks = []; teaches = []; steps = [] }
+nothing_planned = record { users = []; tasks = []; teaches = []; steps = [] }
 
 -- the plan has few lines of each form: as many tasks as a limit of 16 bits allows, and as many others as a scenario
 pub record HasFewLines (plan : Contents) : Type 0 where
+  pub users : length plan.users ≤ 256
   pub tasks : length plan.tasks ≤ 65535
   pub teaches : length plan.teaches ≤ 64
   pub steps : length plan.steps ≤ 100000
@@ -318,7 +365,8 @@ pub record HasFewLines (plan : Contents) : Type 0 where
 abbrev pub place_after : Contents → Place
 place_after plan =
     record {
-      number = length plan.tasks + length plan.teaches + length plan.steps + 4;
+      number = length plan.users + length plan.tasks + length plan.teaches + length plan.steps + 4;
+      is_after_task = not (length plan.tasks == 0);
       is_after_teach = not (length plan.teaches == 0);
       is_after_step = not (length plan.steps == 0);
     }
@@ -337,32 +385,76 @@ has_leader tasks task =
 abbrev pub check : BadKind → Bool → Read (Unit {0})
 check kind holds = if holds then Ok tt else Err kind
 
+-- how many of the users the tasks of the plan name
+abbrev pub count_named : ℕ → Contents → ℕ
+count_named version plan = length (users_in version plan.tasks)
+
+-- the plan counts these right
+abbrev pub Counts : ℕ → Plan → Type 0
+Counts version plan = plan.named ≡ count_named version (contents plan)
+
+-- how many are named after a task of this user
+abbrev pub named_after : ℕ → ℕ → ℕ → ℕ
+named_after version user named = if (version == 2) && (user == named) then named + 1 else named
+
+-- whether this user is the next one, with credentials that no user before has
+unfoldable pub is_next_user : List Creds → UserLine → Bool
+is_next_user users user = (user.number == length users) && not (list_any (is_user user.creds) users)
+
+-- whether a task of this user may follow: it is one that is named already, or the next one
+unfoldable pub may_name : ℕ → ℕ → Contents → Bool
+may_name version user plan =
+    not (version == 2) || (nat_lt user (length plan.users) && nat_le user (count_named version plan))
+
+-- whether each user is named by some task
+unfoldable pub are_named : ℕ → Contents → Bool
+are_named version plan = nat_le (length plan.users) (count_named version plan)
+
+-- one line more of a form of which there are so many may follow the tasks
+abbrev pub count_check : ℕ → ℕ → Bool → Read (Unit {0})
+count_check count most named = do
+  few ← check Full (nat_lt count most)
+  check User named
+
 -- the line may follow those of the plan
-unfoldable pub line_check : ℕ → ScenarioLine → Contents → Read (Unit {0})
-line_check limit (forms.Task task) plan = do
-  fresh ← check Twice (has_fresh_pid plan.tasks task)
-  led ← check Leader (has_leader plan.tasks task)
-  check Full (nat_lt (length plan.tasks) limit)
-line_check limit (forms.Teach teach) plan = check Full (nat_lt (length plan.teaches) 64)
-line_check limit (forms.Step step) plan = check Full (nat_lt (length plan.steps) 100000)
-line_check limit forms.End plan = Ok tt
+unfoldable pub line_check : ℕ → ℕ → ScenarioLine → Contents → Read (Unit {0})
+line_check version limit (forms.User user) plan = check User (is_next_user plan.users user)
+line_check version limit (forms.Task task) plan = do
+  fresh ← check Twice (has_fresh_pid plan.tasks task.spec)
+  led ← check Leader (has_leader plan.tasks task.spec)
+  few ← check Full (nat_lt (length plan.tasks) limit)
+  check User (may_name version task.user plan)
+line_check version limit (forms.Teach teach) plan = count_check (length plan.teaches) 64 (are_named version plan)
+line_check version limit (forms.Step step) plan = count_check (length plan.steps) 100000 (are_named version plan)
+line_check version limit forms.End plan = check User (are_named version plan)
 
 -- the next line, which may follow those of the plan
 unfoldable pub next_of : Head → Contents → List (List Word) → Read (ScenarioLine × List (List Word))
 next_of head plan lines = do
   taken ← line_at lines
-  line ← line_of head.siblings (place_after plan) (parts taken.0)
-  follows ← line_check head.task_limit line plan
+  line ← line_of head.version head.siblings plan.users (place_after plan) (parts taken.0)
+  follows ← line_check head.version head.task_limit line plan
   Ok (line, taken.1)
 
--- what a plan keeps, in a core of this many siblings, in which this many tasks may live at once
-pub record IsPlan (siblings limit : ℕ) (plan : Contents) : Type 0 where
+-- two users have two sets of credentials
+abbrev pub AreApart : List Creds → Type 0
+AreApart users = AllPairs (λ a b. is_user a b ≡ false) users
+
+-- what a plan keeps, in a text of this version and a core of this many siblings, in which this many tasks may live at
+-- once
+pub record IsPlan (version siblings limit : ℕ) (plan : Contents) : Type 0 where
+  pub users : All AreCreds plan.users
+  pub apart : AreApart plan.users
+  pub few_users : length plan.users ≤ 256
+  pub no_users : (version == 2) ≡ false → plan.users ≡ []
+  -- The tasks name the first users, in their order.
+  pub named : users_in version plan.tasks ≡ take (count_named version plan) plan.users
   pub tasks : All (IsTask siblings) plan.tasks
   pub distinct : AreDistinct plan.tasks
   pub led : AreLed plan.tasks
   pub few_tasks : length plan.tasks ≤ limit
   pub teaches : All IsTeach plan.teaches
-  pub numbered : AreNumbered (length plan.tasks) plan.teaches
+  pub numbered : AreNumbered (length plan.users + length plan.tasks) plan.teaches
   pub few_teaches : length plan.teaches ≤ 64
   pub steps : All (IsStep siblings) plan.steps
   pub few_steps : length plan.steps ≤ 100000
@@ -410,11 +502,12 @@ pub record BeginsNumber (low high : ℕ) (text : List ℕ) (number end : ℕ) (r
   pub within : IsWithin low high number
   pub spelled : text ≡ decimal number ++ end ∷ rest
 
--- these steps, and the lines left, become more steps and fewer lines, since the lines of steps are taken one by one
-pub data TakesSteps (siblings : ℕ) (before : List Step) (lines : List (List Word)) : List Step → List (List Word) → Type 0 where
-  taken_none : TakesSteps siblings before lines before lines
-  taken_more : {steps : List Step} {left rest : List (List Word)} (step : Step) → TakesSteps siblings before lines steps left → length steps < 100000 → IsStep siblings step →
-      line_at left ≡ Ok (step_words step, rest) → TakesSteps siblings before lines (steps ++ step ∷ []) rest
+-- these steps, and the lines left, become more steps and fewer lines, since the lines of steps are taken one by one, if
+-- each user is named
+pub data TakesSteps (siblings : ℕ) (named : Bool) (before : List Step) (lines : List (List Word)) : List Step → List (List Word) → Type 0 where
+  taken_none : TakesSteps siblings named before lines before lines
+  taken_more : {steps : List Step} {left rest : List (List Word)} (step : Step) → TakesSteps siblings named before lines steps left → named ≡ true → length steps < 100000 → IsStep siblings step →
+      line_at left ≡ Ok (step_words step, rest) → TakesSteps siblings named before lines (steps ++ step ∷ []) rest
 
 -- and with the target of a call, which ends at a space
 pub record BeginsTarget (text : List ℕ) (target : ℤ) (rest : List ℕ) : Type 0 where
@@ -422,8 +515,10 @@ pub record BeginsTarget (text : List ℕ) (target : ℤ) (rest : List ℕ) : Typ
   pub spelled : text ≡ signed_decimal target ++ 32 ∷ rest
 
 -- the words of a plan's lines
-abbrev pub plan_lines : Contents → List (List Word)
-plan_lines plan = map task_words plan.tasks ++ map teach_words plan.teaches ++ map step_words plan.steps
+abbrev pub plan_lines : ℕ → Contents → List (List Word)
+plan_lines version plan =
+    users_words plan.users ++ map (task_words_in version plan.users) plan.tasks ++ map teach_words plan.teaches
+    ++ map step_words plan.steps
 
 -- what stands after the last line feed
 abbrev pub nothing : List (List Word)
@@ -432,7 +527,8 @@ nothing = ([] ∷ []) ∷ []
 -- the plan of the lines after a head, after which nothing stands; or the first bad line of all
 abbrev pub ReadsPlan : Head → List (List Word) → Result Plan ReadFault → Type 0
 ReadsPlan head lines (Ok plan) =
-    IsPlan head.siblings head.task_limit (contents plan) × (lines ≡ plan_lines (contents plan) ++ end_words ∷ nothing)
+    IsPlan head.version head.siblings head.task_limit (contents plan) × (are_named head.version (contents plan) ≡ true)
+    × (lines ≡ plan_lines head.version (contents plan) ++ end_words ∷ nothing)
 ReadsPlan head lines (Err fault) = Tells (head_lines head ++ lines) fault
 
 -- the scenario of these lines, or their first bad line

@@ -54,6 +54,16 @@ task_words task =
     codes "task" ∷ decimal task.pid ∷ decimal task.tgid ∷ decimal task.pgid ∷ decimal task.cpu
     ∷ policy_word task.policy ∷ creds_words task.creds
 
+-- `user` U and the credentials
+abbrev pub user_words : ℕ → Creds → List Word
+user_words number creds = codes "user" ∷ decimal number ∷ creds_words creds
+
+-- `task` PID TGID PGID CPU POLICY, and the number of the user
+abbrev pub user_task_words : ℕ → TaskSpec → List Word
+user_task_words number task =
+    codes "task" ∷ decimal task.pid ∷ decimal task.tgid ∷ decimal task.pgid ∷ decimal task.cpu
+    ∷ policy_word task.policy ∷ decimal number ∷ []
+
 -- ---- what guards are taught
 
 -- `teach` GUARD FROM TO

@@ -23,6 +23,10 @@ pub enum BadKind {
     Leader,
     /// It is one line of its form too many: a task above the limit, a 65th teach line or a 100,001st step.
     Full,
+    /// It breaks a rule of users, in version 2: it is a user line whose number is not that of the next user, or with
+    /// credentials that an earlier one has; or a task line with the number of no user, or of one that is not named yet
+    /// and is not the next; or the first line after the tasks, and some user is named by none of them.
+    User,
 }
 
 /// Why a text was not read.

@@ -62,18 +62,23 @@ impl<'a> Lines<'a> {
         words_of(line, slots)
     }
 
-    /// Takes the next lines into the steps, as long as each is one of the usual step lines and the steps are not too
-    /// many. No line's end is searched for. It is a function of its own so that what its loop goes over stays in
+    /// Takes the next lines into the steps, if each user is named, as long as each is one of the usual step lines and
+    /// the steps are not too many. No line's end is searched for. It is a function of its own so that what its loop goes over stays in
     /// registers.
     #[inline(never)]
-    pub fn take_usual_steps(&mut self, siblings: u8, steps: &mut Vec<Step>) -> Result<(), ReadFault>
-        requires { IsWithin 1 8 siblings }
+    pub fn take_usual_steps(
+        &mut self,
+        siblings: u8,
+        named: bool,
+        steps: &mut Vec<Step>,
+    ) -> Result<(), ReadFault>
+        requires { IsWithin 1 16 siblings }
         ensures { MatchResult result
-            (λ _. TakesSteps siblings steps.old.items self.old steps.new.items self.new)
+            (λ _. TakesSteps siblings named steps.old.items self.old steps.new.items self.new)
             (λ fault. fault ≡ ReadFault.OutOfMemory) }
     {
         let mut rest = self.rest;
-        while steps.len() < MOST_STEPS {
+        while named && steps.len() < MOST_STEPS {
             let Some((actor, event, behind)) = usual_step(rest, siblings) else {
                 break;
             };

@@ -4,7 +4,7 @@ ghost use Rattle.std.specs.Prelude.{ℕ, ◌≡◌, ◌⊎◌, ◌≤◌, ◌++�
 ghost use Rattle.cs_types.specs.declared.scenario.Scenario.{Scenario};
 ghost use Rattle.scenario_text.specs.Faults.{lines_in, IsFirstBad};
 ghost use Rattle.scenario_text.specs.Reader.{IsTextOf, HasNoScenario, HasOneScenario, Tells};
-ghost use Rattle.scenario_text.specs.Reading.{Takes, contents, HasFewLines, next_of, IsHead, head_lines, AreGood, ReadsPlan, ReadsLines};
+ghost use Rattle.scenario_text.specs.Reading.{Takes, contents, HasFewLines, Counts, next_of, IsHead, head_lines, AreGood, ReadsPlan, ReadsLines};
 
 use crate::fault::{BadKind, ReadFault};
 use crate::head::{Head, next_head};
@@ -25,15 +25,22 @@ fn next_line<'a>(
 ) -> Result<ScenarioLine, BadKind>
     requires head { IsHead head }
     requires few { HasFewLines (contents plan.now) }
+    requires counted { Counts head.version plan.now }
     ensures { Takes (λ line. line) result lines.new (next_of head (contents plan.now) lines.old) }
 {
     let words = lines.next_line(slots)?;
-    let line = parse_line(words, head.siblings, plan.place())?;
-    plan.check(&line, head.task_limit)?;
+    let line = parse_line(
+        words,
+        head.version,
+        head.siblings,
+        &plan.users,
+        plan.place(),
+    )?;
+    plan.check(&line, head)?;
     Ok(line)
 }
 
-/// The tasks, the teach lines and the steps of the lines up to `end`, after which nothing stands.
+/// The users, the tasks, the teach lines and the steps of the lines up to `end`, after which nothing stands.
 fn read_plan(alloc: Global, lines: &mut Lines<'_>, head: Head) -> Result<Plan, ReadFault>
     requires head { IsHead head }
     requires some { 1 ≤ length lines.old }
@@ -43,7 +50,7 @@ fn read_plan(alloc: Global, lines: &mut Lines<'_>, head: Head) -> Result<Plan, R
     let mut plan = Plan::new(alloc);
     let mut slots = slots();
     loop {
-        lines.take_usual_steps(head.siblings, &mut plan.steps)?;
+        lines.take_usual_steps(head.siblings, plan.are_named(), &mut plan.steps)?;
         let line = match next_line(lines, &mut slots, head, &plan) {
             Ok(line) => line,
             Err(kind) => {
@@ -52,7 +59,8 @@ fn read_plan(alloc: Global, lines: &mut Lines<'_>, head: Head) -> Result<Plan, R
             }
         };
         match line {
-            ScenarioLine::Task(task) => plan.tasks.push(task)?,
+            ScenarioLine::User(user) => plan.users.push(user.creds)?,
+            ScenarioLine::Task(task) => plan.push_task(task, head.version)?,
             ScenarioLine::Teach(teach) => plan.teaches.push(teach)?,
             ScenarioLine::Step(step) => plan.steps.push(step)?,
             ScenarioLine::End => break,
@@ -75,6 +83,7 @@ fn read_lines(alloc: Global, mut lines: Lines<'_>) -> Result<Scenario, ReadFault
     let head = next_head(&mut lines)?;
     let plan = read_plan(alloc, &mut lines, head)?;
     Ok(Scenario {
+        version: head.version,
         siblings: head.siblings,
         task_limit: head.task_limit,
         cookie_limit: head.cookie_limit,
@@ -87,15 +96,15 @@ fn read_lines(alloc: Global, mut lines: Lines<'_>) -> Result<Scenario, ReadFault
 
 /// The scenario of a text.
 ///
-/// A text is the lines `coresched 1`, `siblings` COUNT and `limits` TASKS COOKIES TOP, then the task
-/// lines, the teach lines, the step lines and the line `end`. Each line ends with a line feed, and one
-/// space stands between two of its words.
+/// A text is the lines `coresched` VERSION, `siblings` COUNT and `limits` TASKS COOKIES TOP, then in version 2 the user
+/// lines, then the task lines, the teach lines, the step lines and the line `end`. Each line ends with a line feed, and
+/// one space stands between two of its words.
 ///
 /// # Errors
 ///
 /// [`ReadFault::Bad`] exactly if the bytes are the text of no valid scenario: with the first line that is
 /// bad, counted from 1, and the first of the kinds of [`BadKind`](crate::BadKind) that hold of it.
-/// [`ReadFault::OutOfMemory`] if there is no memory for its tasks, teach lines and steps.
+/// [`ReadFault::OutOfMemory`] if there is no memory for its users, tasks, teach lines and steps.
 pub fn read(alloc: Global, bytes: &[u8]) -> Result<Scenario, ReadFault>
     // What is read is the scenario of the text.
     ensures found { IfOk result (IsTextOf bytes.now) }

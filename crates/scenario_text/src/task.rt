@@ -1,10 +1,10 @@
-//! Tasks, as the words of a task line spell them. What a task may not be because of other tasks is
+//! Users and tasks, as the words of their lines spell them. What they may not be because of other lines is
 //! elsewhere, with the plan.
 
 ghost use Rattle.std.specs.Prelude.{◌≡◌, ◌&&◌, [], ◌∷◌, true, false, codes, MatchResult};
 ghost use Rattle.scenario_text.specs.declared.fault.BadKind.TheVariants.{Number};
-ghost use Rattle.scenario_text.specs.Grammar.{is_word, is_number, is_signed, value, flag, policy, creds_form, task_form};
-ghost use Rattle.scenario_text.specs.Reading.{lent, read_in, signed_value, flag_value, policy_value, creds_value, task_value};
+ghost use Rattle.scenario_text.specs.Grammar.{is_word, is_number, is_signed, value, flag, policy, creds_form, owner_form, user_form, task_form};
+ghost use Rattle.scenario_text.specs.Reading.{lent, read_in, signed_value, flag_value, policy_value, creds_value, user_value, user_at, owner_value, task_value};
 
 use crate::fault::BadKind;
 use crate::number::{parse_cpu, parse_flag, parse_number, parse_signed, parse_u8, parse_u32};
@@ -28,6 +28,24 @@ pub const MOST_NICE_ABOVE: u32 = 19;
 
 /// The greatest user or group id. The least is 0.
 pub const MOST_ID: u32 = 65535;
+
+/// The greatest number of a user of version 2. The least is 0.
+pub const MOST_USER: u8 = 255;
+
+/// What a user line says: a user's number, and its credentials.
+#[derive(Clone, Copy)]
+pub(crate) struct UserLine {
+    pub number: u8,
+    pub creds: Creds,
+}
+
+/// What a task line says: a task, and in version 2 the number of the user whose credentials it has, in version 1
+/// 0.
+#[derive(Clone, Copy)]
+pub(crate) struct TaskLine {
+    pub spec: TaskSpec,
+    pub user: u8,
+}
 
 /// A nice value.
 fn parse_nice(word: &[u8]) -> Result<i8, BadKind>
@@ -138,19 +156,75 @@ fn parse_creds(words: &[&[u8]]) -> Result<Creds, BadKind>
     })
 }
 
-/// The words of a task line, in a core with this number of siblings. The first of them is `task`.
-pub(crate) fn parse_task(words: &[&[u8]], siblings: u8) -> Result<TaskSpec, BadKind>
-    requires { is_word ((lent words.now).at 0) (codes "task") ≡ true }
-    ensures { result ≡ read_in ((task_form siblings, task_value) ∷ []) (lent words.now) }
+/// The words of a user line. The first of them is `user`.
+pub(crate) fn parse_user(words: &[&[u8]]) -> Result<UserLine, BadKind>
+    requires { is_word ((lent words.now).at 0) (codes "user") ≡ true }
+    ensures { result ≡ read_in ((user_form, user_value) ∷ []) (lent words.now) }
 {
-    let [_, pid, tgid, pgid, cpu, policy, ref creds @ ..] = *words else {
+    let [_, number, ref creds @ ..] = *words else {
+        return Err(BadKind::Shape);
+    };
+    // Before the number, since the line has its shape only if nine words come after that.
+    let creds = parse_creds(creds)?;
+    let number = parse_u8(number, 0, MOST_USER)?;
+    Ok(UserLine { number, creds })
+}
+
+/// The credentials of the user of this number, and those of nobody if there is none.
+fn user_at(users: &[Creds], number: u8) -> Creds
+    ensures { result ≡ user_at users.now number }
+{
+    let nobody = Creds {
+        ruid: 0,
+        euid: 0,
+        suid: 0,
+        rgid: 0,
+        egid: 0,
+        sgid: 0,
+        cap: false,
+        mm: false,
+        dumpable: false,
+    };
+    *users.get(number as usize).unwrap_or(&nobody)
+}
+
+/// The words after a policy: in version 2 the number of one of these users, in version 1 the credentials.
+fn parse_owner(words: &[&[u8]], version: u8, users: &[Creds]) -> Result<UserLine, BadKind>
+    ensures { result ≡ read_in ((owner_form version, owner_value version users.now) ∷ [])
+        (lent words.now) }
+{
+    if version != 2 {
+        let creds = parse_creds(words)?;
+        return Ok(UserLine { number: 0, creds });
+    }
+    let [number] = *words else {
+        return Err(BadKind::Shape);
+    };
+    let number = parse_u8(number, 0, MOST_USER)?;
+    let creds = user_at(users, number);
+    Ok(UserLine { number, creds })
+}
+
+/// The words of a task line, in a text of this version, beside these users and in a core with this number of siblings.
+/// The first of them is `task`.
+pub(crate) fn parse_task(
+    words: &[&[u8]],
+    version: u8,
+    siblings: u8,
+    users: &[Creds],
+) -> Result<TaskLine, BadKind>
+    requires { is_word ((lent words.now).at 0) (codes "task") ≡ true }
+    ensures { result ≡ read_in
+        ((task_form version siblings, task_value version users.now) ∷ []) (lent words.now) }
+{
+    let [_, pid, tgid, pgid, cpu, policy, ref owner @ ..] = *words else {
         return Err(BadKind::Shape);
     };
     if !has_policy_shape(policy) {
         return Err(BadKind::Shape);
     }
-    // Before the numbers in front of them, since the line has its shape only if there are nine of these.
-    let creds = parse_creds(creds)?;
+    // Before the numbers in front of them, since the line has its shape only if there are as many as a user has.
+    let owner = parse_owner(owner, version, users)?;
     let (Ok((pid, tgid, pgid)), Ok(cpu), Ok(policy)) = (
         parse_three(pid, tgid, pgid, 1, MOST_PID),
         parse_cpu(cpu, siblings),
@@ -158,12 +232,16 @@ pub(crate) fn parse_task(words: &[&[u8]], siblings: u8) -> Result<TaskSpec, BadK
     ) else {
         return Err(BadKind::Number);
     };
-    Ok(TaskSpec {
+    let spec = TaskSpec {
         pid,
         tgid,
         pgid,
         cpu,
         policy,
-        creds,
+        creds: owner.creds,
+    };
+    Ok(TaskLine {
+        spec,
+        user: owner.number,
     })
 }

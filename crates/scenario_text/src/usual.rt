@@ -221,11 +221,29 @@ fn setsched_event(text: &[u8]) -> Option<(Event, &[u8])>
     Some((Event::SetSched { pid, policy }, rest))
 }
 
+/// The number of one digit or two, up to `most`, that stands before the byte `end`, and what stands after that byte.
+#[inline(always)]
+fn small_before(text: &[u8], end: u8, most: u8) -> Option<(u8, &[u8])>
+    requires { most ≤ 19 }
+    ensures { IfSome result (λ read. BeginsNumber 0 most text.now read.0 end read.1.now) }
+{
+    // Most are one digit, so this is asked first. Two begin with 1.
+    if let Some(read) = digit_before(text, end, most.min(9)) {
+        return Some(read);
+    }
+    let [b'1', ref units @ ..] = *text else {
+        return None;
+    };
+    let (unit, rest) = digit_before(units, end, 9)?;
+    let number = 10 + unit;
+    (number <= most).then_some((number, rest))
+}
+
 /// What a caller does, in a core with this number of siblings, if the text begins with that, and what stands after its
 /// line.
 #[inline(always)]
 fn caller_event(text: &[u8], siblings: u8) -> Option<(Event, &[u8])>
-    requires { IsWithin 1 8 siblings }
+    requires { IsWithin 1 16 siblings }
     ensures { IfSome result (λ read. BeginsCall siblings text.now read.0 read.1.now) }
 {
     if let Some(words) = behind(text, b"wake ") {
@@ -237,10 +255,10 @@ fn caller_event(text: &[u8], siblings: u8) -> Option<(Event, &[u8])>
     } else if let Some(words) = behind(text, b"fork ") {
         fork_event(words)
     } else if let Some(words) = behind(text, b"online ") {
-        let (cpu, rest) = digit_before(words, b'\n', siblings - 1)?;
+        let (cpu, rest) = small_before(words, b'\n', siblings - 1)?;
         Some((Event::Online(cpu), rest))
     } else if let Some(words) = behind(text, b"offline ") {
-        let (cpu, rest) = digit_before(words, b'\n', siblings - 1)?;
+        let (cpu, rest) = small_before(words, b'\n', siblings - 1)?;
         Some((Event::Offline(cpu), rest))
     } else if let Some(words) = behind(text, b"sets") {
         setsched_event(behind(words, b"ched ")?)
@@ -253,27 +271,26 @@ fn caller_event(text: &[u8], siblings: u8) -> Option<(Event, &[u8])>
 /// that follows it.
 #[inline(always)]
 fn first_actor(text: &[u8], siblings: u8) -> Option<(Actor, &[u8])>
-    requires { IsWithin 1 8 siblings }
+    requires { IsWithin 1 16 siblings }
     ensures { IfSome result (λ read. BeginsActor siblings text.now read.0 read.1.now) }
 {
-    let [letter, digit, b' ', ref rest @ ..] = *text else {
-        return None;
-    };
-    // The number is one digit, since a scenario has at most 8 siblings and 8 callers.
-    let number = digit.wrapping_sub(b'0');
-    if letter == b's' && number < siblings {
-        Some((Actor::Sibling(number), rest))
-    } else if letter == b'c' && number <= MOST_CALLER {
-        Some((Actor::Caller(number), rest))
-    } else {
-        None
+    match *text {
+        [b's', ref number @ ..] => {
+            let (cpu, rest) = small_before(number, b' ', siblings - 1)?;
+            Some((Actor::Sibling(cpu), rest))
+        }
+        [b'c', ref number @ ..] => {
+            let (caller, rest) = digit_before(number, b' ', MOST_CALLER)?;
+            Some((Actor::Caller(caller), rest))
+        }
+        _ => None,
     }
 }
 
 /// Who makes the step of the first line, if it is one of these, and what they do, and what stands after the line.
 #[inline(always)]
 pub(crate) fn usual_step(text: &[u8], siblings: u8) -> Option<(Actor, Event, &[u8])>
-    requires { IsWithin 1 8 siblings }
+    requires { IsWithin 1 16 siblings }
     ensures { IfSome result
         (λ read. BeginsStep siblings text.now
         (record { actor = read.0; event = read.1 }) read.2.now) }

@@ -1,7 +1,10 @@
-//! A scenario's text, written to a sink. No program writes one. Code that makes scenarios can, as the tests do.
+//! A scenario's text, written to a sink, and a scenario of either version made one of version 2.
 #![tactic(auto)]
 
 mod fields;
 mod scenario;
+mod users;
+mod version;
 
 pub use scenario::scenario_text;
+pub use version::upgrade;

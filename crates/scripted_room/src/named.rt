@@ -15,6 +15,7 @@ pub trait Named {
 impl Named for Brand {
     ghost opening = { record {
       scenario = record {
+        version = 1;
         siblings = 1;
         task_limit = 1;
         cookie_limit = 1;

@@ -1,5 +1,5 @@
 //! Texts that the writer of scenarios makes: of one without tasks and steps, of one with a line of every
-//! form, and of one that no text is read as. They go line by line, and are read back.
+//! form, of one of version 2, and of one that no text is read as. They go line by line, and are read back.
 
 use cs_types::{Actor, Ask, Creds, Event, List, Policy, Scenario, Step, TaskSpec, Teach};
 use row_inputs::{joined, sink_of};
@@ -53,9 +53,25 @@ const EVERY_FORM: [&str; 33] = [
     "end\n",
 ];
 
+/// The lines of one of version 2, whose first and third task have one user.
+const OF_USERS: [&str; 12] = [
+    "coresched 2\n",
+    "siblings 16\n",
+    "limits 8 8 65536\n",
+    "user 0 0 0 0 0 0 0 1 1 0\n",
+    "user 1 1 2 3 4 5 6 0 0 1\n",
+    "task 1 1 1 0 stop 0\n",
+    "task 2 1 1 7 dl:1000000000 1\n",
+    "task 3 3 3 15 fifo:1 0\n",
+    "teach 0 1000 0\n",
+    "step s15 turn\n",
+    "step c7 offline 15\n",
+    "end\n",
+];
+
 /// The lines of one whose numbers are as great as they can be stored, which no text is read as.
 const GREATEST: [&str; 7] = [
-    "coresched 1\n",
+    "coresched 255\n",
     "siblings 255\n",
     "limits 65535 65535 18446744073709551615\n",
     "task 4294967295 4294967295 4294967295 255 dl:18446744073709551615 4294967295 4294967295 4294967295 4294967295 4294967295 4294967295 1 1 1\n",
@@ -247,6 +263,19 @@ const STEPS: [Step; 21] = [
     step!(Actor::Caller(0), Event::Unload(0)),
 ];
 
+/// The tasks of the scenario of version 2.
+const TASKS_OF_USERS: [TaskSpec; 3] = [
+    task!(1, 1, 1, 0, Policy::Stop, 0, [true, true, false]),
+    SECOND,
+    task!(3, 3, 3, 15, Policy::Fifo(1), 0, [true, true, false]),
+];
+
+/// Its steps.
+const STEPS_OF_USERS: [Step; 2] = [
+    step!(Actor::Sibling(15), Event::Turn(15)),
+    step!(Actor::Caller(7), Event::Offline(15)),
+];
+
 /// A task, a teach line and a step of the greatest numbers. No text has an end that calls `prctl`.
 const GREAT_TASK: TaskSpec = task!(
     4_294_967_295,
@@ -271,17 +300,18 @@ const GREAT_STEP: Step = step!(
     )
 );
 
-/// The scenario of this many siblings, of these limits of tasks and of cookies, of this end of the callers'
+/// The scenario of this version and this many siblings, of these limits of tasks and of cookies, of this end of the callers'
 /// addresses, and of these lists.
 fn scenario_of<R: AllocGlobal + Abort>(
     rt: &R,
-    (siblings, task_limit, cookie_limit, user_top): (u8, u16, u16, u64),
+    (version, siblings, task_limit, cookie_limit, user_top): (u8, u8, u16, u16, u64),
     tasks: &[TaskSpec],
     teaches: &[Teach],
     steps: &[Step],
 ) -> Scenario {
     let alloc = rt.alloc();
     Scenario {
+        version,
         siblings,
         task_limit,
         cookie_limit,
@@ -294,8 +324,20 @@ fn scenario_of<R: AllocGlobal + Abort>(
 
 /// The scenario with every form.
 fn every_form<R: AllocGlobal + Abort>(rt: &R) -> Scenario {
-    let limits = (8, 256, 1, 9_223_372_036_854_775_807);
+    let limits = (1, 8, 256, 1, 9_223_372_036_854_775_807);
     scenario_of(rt, limits, &TASKS, &TEACHES, &STEPS)
+}
+
+/// The scenario of version 2. Its teach line is the ninth.
+fn of_users<R: AllocGlobal + Abort>(rt: &R) -> Scenario {
+    let limits = (2, 16, 8, 8, 65_536);
+    scenario_of(
+        rt,
+        limits,
+        &TASKS_OF_USERS,
+        &[teach!(9, 0, 1000, 0)],
+        &STEPS_OF_USERS,
+    )
 }
 
 /// Expects that the scenario is written as these lines, each in one piece, whole or up to the call at which
@@ -315,17 +357,18 @@ fn expect_written<R: AllocGlobal + Abort>(
 
 #[test]
 fn scenarios_are_written(rt: HostRuntime) {
-    let nothing = scenario_of(&rt, (2, 4, 4, 65_536), &[], &[], &[]);
+    let nothing = scenario_of(&rt, (1, 2, 4, 4, 65_536), &[], &[], &[]);
     expect_written(&rt, &nothing, 0, true, &NOTHING);
     expect_written(&rt, &every_form(&rt), 0, true, &EVERY_FORM);
-    let limits = (255, 65_535, 65_535, 18_446_744_073_709_551_615);
+    expect_written(&rt, &of_users(&rt), 0, true, &OF_USERS);
+    let limits = (255, 255, 65_535, 65_535, 18_446_744_073_709_551_615);
     let greatest = scenario_of(&rt, limits, &[GREAT_TASK], &[GREAT_TEACH], &[GREAT_STEP]);
     expect_written(&rt, &greatest, 0, true, &GREATEST);
 }
 
 #[test]
 fn scenarios_are_read_back(rt: HostRuntime) {
-    for lines in [NOTHING.as_slice(), &EVERY_FORM] {
+    for lines in [NOTHING.as_slice(), &EVERY_FORM, &OF_USERS] {
         let text = joined(rt.alloc(), lines).expect(&rt, "room");
         let scenario = read(rt.alloc(), &text).expect(&rt, "a scenario");
         expect_written(&rt, &scenario, 0, true, lines);
@@ -337,6 +380,11 @@ fn writer_that_meets_a_fault(rt: HostRuntime) {
     let scenario = every_form(&rt);
     for call in 1..34 {
         let lines = &EVERY_FORM[..call as usize - 1];
+        expect_written(&rt, &scenario, call, false, lines);
+    }
+    let scenario = of_users(&rt);
+    for call in 1..13 {
+        let lines = &OF_USERS[..call as usize - 1];
         expect_written(&rt, &scenario, call, false, lines);
     }
 }

@@ -1,6 +1,6 @@
 use Rattle.std.proofs.Common.{◌≡◌, ◌∙◌, ap, Some}
-use Rattle.command_words.specs.declared.command.Command.TheVariants.{Replay, Race, Drill}
-use Rattle.command_words.proofs.Found.{no_seed, none_asked, not_asked, only, race_is_no_drill, replay_is_no_drill}
+use Rattle.command_words.specs.declared.command.Command.TheVariants.{Replay, Race, Upgrade, Drill}
+use Rattle.command_words.proofs.Found.{no_seed, none_asked, not_asked, only, race_is_no_drill, replay_is_no_drill, upgrade_is_no_drill}
 use Rattle.command_words.proofs.command.drill_seed.Goals as goal
 
 pub returns-in-Some-Drill : goal.returns-in-Some-Drill
@@ -23,6 +23,13 @@ returns-in-Some-Race c =
     λ seed. (
       λ e. absurd (no_seed seed e),
       λ asks. absurd (not_asked c.command_of.result c.args.words.now Race (Drill seed) c.command_of.ensures.asked (c.in-Some-Race.is ∙ ap Some c.in-Some-Race.field-0-is) (race_is_no_drill seed) asks),
+    )
+
+pub returns-in-Some-Upgrade : goal.returns-in-Some-Upgrade
+returns-in-Some-Upgrade c =
+    λ seed. (
+      λ e. absurd (no_seed seed e),
+      λ asks. absurd (not_asked c.command_of.result c.args.words.now Upgrade (Drill seed) c.command_of.ensures.asked (c.in-Some-Upgrade.is ∙ ap Some c.in-Some-Upgrade.field-0-is) (upgrade_is_no_drill seed) asks),
     )
 
 pub returns-in-None : goal.returns-in-None

@@ -6,6 +6,7 @@ use Rattle.room_drill.proofs.scenario.generate.Goals as goal
 pub returns-clause-scenario : goal.returns-clause-scenario
 returns-clause-scenario c =
     (λ i. record {
+      version = 1;
       siblings = 4;
       task_limit = 64;
       cookie_limit = 16;

@@ -1,5 +1,5 @@
 use Rattle.std.proofs.Common.{◌∙◌, ap, Some}
-use Rattle.command_words.specs.declared.command.Command.TheVariants.{Replay, Race, Drill}
+use Rattle.command_words.specs.declared.command.Command.TheVariants.{Replay, Race, Upgrade, Drill}
 use Rattle.scenario_runner.proofs.Asked.{drill_words, known_words}
 use Rattle.scenario_runner.proofs.command.run.Goals as goal
 
@@ -15,3 +15,7 @@ pub returns-in-Some-Drill-clause-bad_words : goal.returns-in-Some-Drill-clause-b
 returns-in-Some-Drill-clause-bad_words g c =
     known_words c.command_of.result c.args.words.now (Drill c.in-Some-Drill.seed) c.drilled.result c.command_of.ensures.asked (c.in-Some-Drill.is ∙ ap Some c.in-Some-Drill.field-0-is)
     (drill_words _ _ _ c.drilled.ensures)
+
+pub returns-in-Some-Upgrade-clause-bad_words : goal.returns-in-Some-Upgrade-clause-bad_words
+returns-in-Some-Upgrade-clause-bad_words g c =
+    known_words c.command_of.result c.args.words.now Upgrade c.upgraded.result c.command_of.ensures.asked (c.in-Some-Upgrade.is ∙ ap Some c.in-Some-Upgrade.field-0-is) c.upgraded.ensures.good_words

@@ -33,11 +33,11 @@ overflow_sub-siblings c = c.requires.0
 pub overflow_sub-siblings-in-Some-behind-5 : goal.overflow_sub-siblings-in-Some-behind-5
 overflow_sub-siblings-in-Some-behind-5 c = c.requires.0
 
-pub digit_before-requires : goal.digit_before-requires
-digit_before-requires c = omega (arith, c.requires.1)
+pub small_before-requires : goal.small_before-requires
+small_before-requires c = omega (arith, c.requires.1)
 
-pub digit_before-requires-in-Some-behind-5 : goal.digit_before-requires-in-Some-behind-5
-digit_before-requires-in-Some-behind-5 c = omega (arith, c.requires.1)
+pub small_before-requires-in-Some-behind-5 : goal.small_before-requires-in-Some-behind-5
+small_before-requires-in-Some-behind-5 c = omega (arith, c.requires.1)
 
 pub returns-in_err-cpu : goal.returns-in_err-cpu
 returns-in_err-cpu c = rw c.from_residual.ensures tt

@@ -22,12 +22,12 @@ returns-clause-parts c = λ opening same.
 pub returns-clause-entries : goal.returns-clause-entries
 returns-clause-entries c =
     let nothing : Opening =
-    record { scenario = record { siblings = 0; task_limit = 0; cookie_limit = 0; user_top = 0; tasks = []; teaches = []; steps = [] }; guards = 0 } in
+    record { scenario = record { version = 0; siblings = 0; task_limit = 0; cookie_limit = 0; user_top = 0; tasks = []; teaches = []; steps = [] }; guards = 0 } in
     ap (λ (s : TaskSums). s.entries) (c.in_ok-open-4.ensures nothing) ∙ ap (λ (n : ℕ). length c.args.steps.now + n * n) c.from-most.ensures
 
 -- and as many of the waits
 pub returns-clause-each : goal.returns-clause-each
 returns-clause-each c =
     let nothing : Opening =
-    record { scenario = record { siblings = 0; task_limit = 0; cookie_limit = 0; user_top = 0; tasks = []; teaches = []; steps = [] }; guards = 0 } in
+    record { scenario = record { version = 0; siblings = 0; task_limit = 0; cookie_limit = 0; user_top = 0; tasks = []; teaches = []; steps = [] }; guards = 0 } in
     c.in_ok-open-5.ensures.entries ∙ sym (ap (λ (s : TaskSums). s.entries) (c.in_ok-open-4.ensures nothing))

@@ -5,18 +5,18 @@ use Rattle.scenario_text.specs.Reading.{TakesSteps, taken_none, taken_more}
 use Rattle.scenario_text.proofs.UsualLines.{step_line_is}
 use Rattle.scenario_text.proofs.lines.Lines.take_usual_steps.Goals as goal
 
-pub loop-rest-init : goal.loop-rest-init
-loop-rest-init c =
+pub loop-steps-init : goal.loop-steps-init
+loop-steps-init c =
     let before = c.args.steps.now.items in
     let start = c.args.self.now in
-    subst (λ (lines : List (List (List ℕ))). TakesSteps c.args.siblings before start before lines) (sym c.self.view_is) taken_none
+    subst (λ (lines : List (List (List ℕ))). TakesSteps c.args.siblings c.args.named before start before lines) (sym c.self.view_is) taken_none
 
-pub loop-rest-preserved : goal.loop-rest-preserved
-loop-rest-preserved c =
+pub loop-steps-preserved : goal.loop-steps-preserved
+loop-steps-preserved c =
     let before = c.args.steps.now.items in
     let start = c.args.self.now in
     let rest = c.in-Some.behind.now in
     let step : Step = record { actor = c.in-Some.actor; event = c.in-Some.event } in
     let found = c.in-Some.ensures in
-    subst (λ (steps : List Step). TakesSteps c.args.siblings before start steps (lines_in rest)) (sym c.in_ok-push_step.ensures)
-    (taken_more step c.loop-rest.invariant (omega arith) found.is (step_line_is c.args.siblings c.loop-rest.rest.now rest step (omega arith) found))
+    subst (λ (steps : List Step). TakesSteps c.args.siblings c.args.named before start steps (lines_in rest)) (sym c.in_ok-push_step.ensures)
+    (taken_more step c.loop-steps.invariant c.loop-steps-test.true (omega arith) found.is (step_line_is c.args.siblings c.loop-steps.rest.now rest step (omega arith) found))

@@ -1,0 +1,29 @@
+use Rattle.std.proofs.Common.{refl, ◌∙◌, ap, Some}
+use Rattle.command_words.specs.declared.command.Command.TheVariants.{Replay, Race, Upgrade, Drill}
+use Rattle.command_words.proofs.Found.{drill_is_no_upgrade, no_truth, none_asked, not_asked, race_is_no_upgrade, replay_is_no_upgrade}
+use Rattle.command_words.proofs.command.is_upgrade.Goals as goal
+
+pub returns-in-Some-Upgrade : goal.returns-in-Some-Upgrade
+returns-in-Some-Upgrade c =
+    (λ _. (c.command_of.ensures.asked Upgrade).0 (c.in-Some-Upgrade.is ∙ ap Some c.in-Some-Upgrade.field-0-is), λ _. refl)
+
+pub returns-in-Some-Race : goal.returns-in-Some-Race
+returns-in-Some-Race c = (
+  λ e. absurd (no_truth e),
+  λ asks. absurd (not_asked c.command_of.result c.args.words.now Race Upgrade c.command_of.ensures.asked (c.in-Some-Race.is ∙ ap Some c.in-Some-Race.field-0-is) race_is_no_upgrade asks),
+)
+
+pub returns-in-Some-Replay : goal.returns-in-Some-Replay
+returns-in-Some-Replay c = (
+  λ e. absurd (no_truth e),
+  λ asks. absurd (not_asked c.command_of.result c.args.words.now Replay Upgrade c.command_of.ensures.asked (c.in-Some-Replay.is ∙ ap Some c.in-Some-Replay.field-0-is) replay_is_no_upgrade asks),
+)
+
+pub returns-in-Some-Drill : goal.returns-in-Some-Drill
+returns-in-Some-Drill c = (
+  λ e. absurd (no_truth e),
+  λ asks. absurd (not_asked c.command_of.result c.args.words.now (Drill c.in-Some-Drill.field-0-0) Upgrade c.command_of.ensures.asked (c.in-Some-Drill.is ∙ ap Some c.in-Some-Drill.field-0-is) (drill_is_no_upgrade c.in-Some-Drill.field-0-0) asks),
+)
+
+pub returns-in-None : goal.returns-in-None
+returns-in-None c = (λ e. absurd (no_truth e), λ asks. absurd (none_asked c.command_of.result c.args.words.now c.command_of.ensures.asked c.in-None.is Upgrade asks))
