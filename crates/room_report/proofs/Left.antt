@@ -1,11 +1,11 @@
 -- Left: which lines of each part are left at a index of its loop.
-use Rattle.std.proofs.Common.{◌≡◌, ℕ, suc, ◌+◌, ◌-◌, ◌<◌, ◌≤◌, Bool, List, [], ◌∷◌, ◌++◌, map, length, drop, take, refl, sym, ap, ◌∙◌, append_assoc, subst, arith, Option, Some, None}
+use Rattle.std.proofs.Common.{◌≡◌, ℕ, zero, suc, take_all, ◌+◌, ◌-◌, ◌<◌, ◌≤◌, Bool, List, [], ◌∷◌, ◌++◌, map, length, drop, take, refl, sym, ap, ◌∙◌, append_assoc, subst, arith, Option, Some, None}
 use Rattle.std.specs.Prelude.{filter, slice_get, unwrap_or, All, if◌then◌else◌, codes}
 use Rattle.std.specs.List.{flat_map, filter_map, cons_option, range_with_len}
 use Rattle.std.specs.Option.{option_map, IsSome}
 use Rattle.std.proofs.Math.Seq.{drop-cons}
 use Rattle.std.proofs.lemmas.Bool.{lt-ltb, ltb-true}
-use Rattle.std.proofs.lemmas.List.{drop_all}
+use Rattle.std.proofs.lemmas.List.{drop_all, length-drop}
 use Rattle.std.proofs.lemmas.List.Elements.{All-more}
 use Rattle.std.proofs.lemmas.Option.{slice_get_within, none-some, slice_get-get_or, get_or_from_slice_get}
 use Rattle.cs_types.specs.declared.task.Task.{Task}
@@ -61,11 +61,34 @@ pub entries_next : (history : History) (index : ℕ) (entry : Entry) → slice_g
 entries_next history index entry at = ap (flat_map entry_text) (drop_next history index entry at)
 
 -- the numbers of the replies so far, with the next entry's
-pub fits_next : (history : History) (index : ℕ) (entry : Entry) → slice_get history index ≡ Some entry →
+fits_next : (history : History) (index : ℕ) (entry : Entry) → slice_get history index ≡ Some entry →
     All (λ (e : Entry). FitsReply e.reply) (take index history) → FitsReply entry.reply → All (λ (e : Entry). FitsReply e.reply) (take (index + 1) history)
 fits_next history index entry at past now =
     All-more (λ (e : Entry). FitsReply e.reply) history index entry (slice_get_within history index entry at) past
     (subst (λ (e : Entry). FitsReply e.reply) (sym (get_or_from_slice_get history index entry entry at)) now)
+
+-- the same of those from a place on
+from_place : (history : History) (from index : ℕ) → from ≤ index → slice_get (drop from history) (index - from) ≡ slice_get history index
+from_place history zero index before = let e : index - 0 ≡ index = omega arith in ap (slice_get history) e
+from_place [] (suc from) index before = refl
+from_place (first ∷ history) (suc from) zero before = absurd (omega (arith, before))
+from_place (first ∷ history) (suc from) (suc index) before =
+    let e : suc index - suc from ≡ index - from = omega arith in
+    ap (slice_get (drop from history)) e ∙ from_place history from index (omega (arith, before))
+
+pub fits_more : (history : History) (from index : ℕ) (entry : Entry) → from ≤ index → slice_get history index ≡ Some entry →
+    All (λ (e : Entry). FitsReply e.reply) (take (index - from) (drop from history)) → FitsReply entry.reply →
+    All (λ (e : Entry). FitsReply e.reply) (take (index + 1 - from) (drop from history))
+fits_more history from index entry before at past now =
+    let next : index - from + 1 ≡ index + 1 - from = omega (arith, before) in
+    subst (λ (n : ℕ). All (λ (e : Entry). FitsReply e.reply) (take n (drop from history))) next
+    (fits_next (drop from history) (index - from) entry (from_place history from index before ∙ at) past now)
+
+pub all_taken : (history : History) (from index : ℕ) → length history ≤ index → All (λ (e : Entry). FitsReply e.reply) (take (index - from) (drop from history)) →
+    All (λ (e : Entry). FitsReply e.reply) (drop from history)
+all_taken history from index long all =
+    subst (All (λ (e : Entry). FitsReply e.reply))
+    (take_all (index - from) (drop from history) (omega (arith, long, length-drop from history))) all
 
 -- ---- siblings
 

@@ -1,6 +1,6 @@
 -- The report of a run: what a machine shows at its last moment, line by line. The output of a run: the line of each
 -- entry, and then the report.
-use Rattle.std.specs.Prelude.{ℕ, Bool, true, false, List, [], ◌∷◌, ◌++◌, length, map, codes, decimal}
+use Rattle.std.specs.Prelude.{ℕ, Bool, true, false, List, [], ◌∷◌, ◌++◌, length, map, drop, codes, decimal}
 use Rattle.std.specs.List.{flat_map, filter_map, range_with_len}
 use Rattle.std.specs.Option.{option_map}
 use Rattle.cs_types.specs.declared.view.CoreView.{CoreView}
@@ -122,3 +122,7 @@ report_text moment = lines_text (report_lines moment)
 -- the line of each entry, and the report of the moment after them
 abbrev pub output_text : Opening → History → List ℕ
 output_text opening history = flat_map entry_text history ++ report_text (moment_of opening history)
+
+-- what of it stands behind the lines of the first entries, as many as this
+abbrev pub output_from : Opening → ℕ → History → List ℕ
+output_from opening from history = flat_map entry_text (drop from history) ++ report_text (moment_of opening history)

@@ -8,4 +8,4 @@ mod parts;
 mod texts;
 
 pub use entry::entry_text;
-pub use texts::{output, report};
+pub use texts::{output, output_from, report};

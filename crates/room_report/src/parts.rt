@@ -2,7 +2,7 @@
 //! again with the rest if the sink took only a part. At an `Err` the sink has failed, and a prefix
 //! of the part is written.
 
-ghost use Rattle.std.specs.Prelude.{◌≡◌, ◌≤◌, All, OnOk, OnErr};
+ghost use Rattle.std.specs.Prelude.{◌≡◌, ◌≤◌, drop, All, OnOk, OnErr};
 ghost use Rattle.std.specs.List.{flat_map};
 ghost use Rattle.cs_types.specs.Scenario.{IsPlayable};
 ghost use Rattle.cs_outside.specs.Device.{appended, Rose, WritesPrefix};
@@ -18,22 +18,26 @@ use cs_outside::{Failed, Sink, write_all};
 use cs_types::Room;
 use scenario_text::Line;
 
-/// The line of each entry.
-pub(crate) fn write_entries<R: Room, K: Sink>(room: &R, sink: &mut K) -> Result<(), Failed>
-    ensures ok { OnOk result (K.written sink.new
-        ≡ appended (K.written sink.old) (flat_map entry_text (R.history room.now))) }
+/// The line of each entry from a place on.
+pub(crate) fn write_entries<R: Room, K: Sink>(
+    room: &R,
+    from: u64,
+    sink: &mut K,
+) -> Result<(), Failed>
+    ensures ok { OnOk result (K.written sink.new ≡ appended
+        (K.written sink.old) (flat_map entry_text (drop from (R.history room.now)))) }
     ensures prefix { WritesPrefix (K.written sink.old)
-        (flat_map entry_text (R.history room.now)) (K.written sink.new) }
+        (flat_map entry_text (drop from (R.history room.now))) (K.written sink.new) }
 
     ensures faultless { OnOk result (K.faults sink.new ≡ K.faults sink.old) }
     ensures failed { OnErr result (Rose (K.faults sink.old) (K.faults sink.new)) }
     ensures counted { K.faults sink.old ≤ K.faults sink.new }
 
     // The numbers of the replies that were written have 64 bits.
-    ensures numbers { OnOk result (All (λ entry. FitsReply entry.reply) (R.history room.now)) }
+    ensures numbers { OnOk result (All (λ entry. FitsReply entry.reply) (drop from (R.history room.now))) }
 {
     let mut line = Line::new();
-    for index in 0..room.length() {
+    for index in from..room.length() {
         // Each is there. To unwrap it would copy it a second time.
         if let Some(entry) = &room.entry(index) {
             entry_text(entry, &mut line, sink)?;

@@ -1,11 +1,11 @@
 //! The whole texts, part by part.
 
-ghost use Rattle.std.specs.Prelude.{◌≡◌, ◌≤◌, All, OnOk, OnErr};
+ghost use Rattle.std.specs.Prelude.{◌≡◌, ◌≤◌, drop, All, OnOk, OnErr};
 ghost use Rattle.cs_types.specs.Room.{Opening};
 ghost use Rattle.cs_types.specs.History.{History, moment_of};
 ghost use Rattle.cs_outside.specs.Device.{appended, Rose, WritesPrefix};
 ghost use Rattle.scenario_text.specs.Entry.{FitsReply, IsEntry};
-ghost use Rattle.room_report.specs.Report.{output_text, report_text};
+ghost use Rattle.room_report.specs.Report.{output_text, output_from, report_text};
 
 use crate::parts::{
     write_core, write_ended, write_entries, write_guards, write_siblings, write_tasks,
@@ -35,7 +35,25 @@ pub fn output<R: Room, K: Sink>(room: &R, sink: &mut K) -> Result<(), Failed>
     // The numbers of the replies that were written have 64 bits.
     ensures numbers { OnOk result (All (λ entry. FitsReply entry.reply) (R.history room.now)) }
 {
-    write_entries(room, sink)?;
+    output_from(room, 0, sink)
+}
+
+/// Writes the line of each entry from a place on, and then the report, in the same way as `output`.
+pub fn output_from<R: Room, K: Sink>(room: &R, from: u64, sink: &mut K) -> Result<(), Failed>
+    ensures ok { OnOk result (K.written sink.new ≡ appended (K.written sink.old)
+        (output_from (R.opening room.now) from (R.history room.now))) }
+    ensures prefix { WritesPrefix (K.written sink.old)
+        (output_from (R.opening room.now) from (R.history room.now)) (K.written sink.new) }
+
+    ensures faultless { OnOk result (K.faults sink.new ≡ K.faults sink.old) }
+    ensures failed { OnErr result (Rose (K.faults sink.old) (K.faults sink.new)) }
+    ensures counted { K.faults sink.old ≤ K.faults sink.new }
+
+    // The numbers of the replies that were written have 64 bits.
+    ensures numbers { OnOk result (All
+        (λ entry. FitsReply entry.reply) (drop from (R.history room.now))) }
+{
+    write_entries(room, from, sink)?;
     report(room, sink)
 }
 

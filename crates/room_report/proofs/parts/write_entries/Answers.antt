@@ -6,7 +6,7 @@ use Rattle.cs_types.specs.declared.reply.Entry.{Entry}
 use Rattle.scenario_text.specs.Text.{entry_text}
 use Rattle.scenario_text.specs.Entry.{FitsReply}
 use Rattle.cs_outside.proofs.Reached.{reached_more, reached_prefix, whole_prefix, reached_end}
-use Rattle.room_report.proofs.Left.{entries_next, fits_next}
+use Rattle.room_report.proofs.Left.{entries_next, fits_more, all_taken}
 use Rattle.room_report.proofs.parts.write_entries.Goals as goal
 use Rattle.room_report.proofs.parts.write_entries.Goals.{in-Some+in_ok-entry_text, in_default}
 
@@ -25,7 +25,7 @@ loop-index-preserved g c =
             refl w.in_ok-entry_text.ensures.ok;
         faultless = w.in_ok-entry_text.ensures.faultless ∙ c.loop-index.invariant.faultless;
         numbers =
-            fits_next (g.R.Room.history c.args.room.now) c.loop-index.index w.in-Some.entry (sym c.entry.ensures ∙ w.in-Some.is)
+            fits_more (g.R.Room.history c.args.room.now) c.args.from c.loop-index.index w.in-Some.entry c.loop-index.auto.index (sym c.entry.ensures ∙ w.in-Some.is)
             c.loop-index.invariant.numbers (search rules);
       })
       | in_default w ↦ elim (slice_get_cases (g.R.Room.history c.args.room.now) c.loop-index.index).1 [
@@ -41,6 +41,5 @@ returns-clause-prefix g c =
 
 pub returns-clause-numbers : goal.returns-clause-numbers
 returns-clause-numbers g c =
-    subst (All (λ (entry : Entry). FitsReply entry.reply))
-    (take_all c.loop-index.index (g.R.Room.history c.args.room.now) (omega (arith, c.length-index-end.ensures.length, c.loop-index-test.false)))
+    all_taken (g.R.Room.history c.args.room.now) c.args.from c.loop-index.index (omega (arith, c.length-index-end.ensures.length, c.loop-index-test.false))
     c.loop-index.invariant.numbers

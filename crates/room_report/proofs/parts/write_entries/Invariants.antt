@@ -1,4 +1,4 @@
-use Rattle.std.proofs.Common.{◌≡◌, All, drop, take}
+use Rattle.std.proofs.Common.{◌≡◌, ◌-◌, All, drop, take}
 use Rattle.std.specs.List.{flat_map}
 use Rattle.scenario_text.specs.Text.{entry_text}
 use Rattle.scenario_text.specs.Entry.{FitsReply}
@@ -10,7 +10,7 @@ invariant-loop-index g l =
     let written = g.K.Sink.written in
     let faults = g.K.Sink.faults in
     record {
-      reached : Reached (written l.fn.sink) (flat_map entry_text (g.R.Room.history l.room)) (flat_map entry_text (drop l.index (g.R.Room.history l.room))) (written l.sink);
+      reached : Reached (written l.fn.sink) (flat_map entry_text (drop l.from (g.R.Room.history l.room))) (flat_map entry_text (drop l.index (g.R.Room.history l.room))) (written l.sink);
       faultless : faults l.sink ≡ faults l.fn.sink;
-      numbers : All (λ entry. FitsReply entry.reply) (take l.index (g.R.Room.history l.room));
+      numbers : All (λ entry. FitsReply entry.reply) (take (l.index - l.from) (drop l.from (g.R.Room.history l.room)));
     }
