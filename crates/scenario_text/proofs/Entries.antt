@@ -194,9 +194,9 @@ spaced_lacks_stop word (next ∷ words) h = h.0 (32 ∷ spaced (next ∷ words))
 -- ---- a reply is plain
 
 -- words that are cut where they are joined, with no line feed in them
-record IsCut (words : List Word) : Type 0 where
-  again : words_in (spaced words) ≡ words
-  no_feed : lacks 10 (spaced words) ≡ true
+pub record IsCut (words : List Word) : Type 0 where
+  pub again : words_in (spaced words) ≡ words
+  pub no_feed : lacks 10 (spaced words) ≡ true
 
 cut_words : (word : Word) (words : List Word) → AllByRecursion IsPlain (word ∷ words) → IsCut (word ∷ words)
 cut_words word words pick_plain = record { again = words_in-spaced word words pick_plain; no_feed = spaced_lacks word words pick_plain }
@@ -224,7 +224,7 @@ plain_pick : (pick : Pick) → FitsPick pick → AllByRecursion IsPlain (pick_wo
 plain_pick pick fits =
     (plain_kind pick.kind, (plain_run pick.run fits.run, (plain_word _ refl refl, (plain_decimal pick.core fits.core, (plain_word _ refl refl, (plain_decimal pick.forced fits.forced, tt))))))
 
-cut_reply : (reply : Reply) → FitsReply reply → IsCut (reply_words reply)
+pub cut_reply : (reply : Reply) → FitsReply reply → IsCut (reply_words reply)
 cut_reply (Picked pick) fits = cut_words _ _ (plain_pick pick fits)
 cut_reply Nothing fits = cut_words _ _ (plain_word _ refl refl, tt)
 cut_reply (Stole pid from) fits =
@@ -261,7 +261,7 @@ plain_deed (Caller j) event is = plain_made 16 (Caller j) event (omega arith) is
 plain_deed End (Resched cpu) is = (plain_word _ refl refl, (plain_word _ refl refl, (plain_decimal cpu (omega arith), tt)))
 plain_deed End event is = absurd is
 
-cut_made : (actor : Actor) (event : Event) → IsMade actor event → IsCut (made_words actor event)
+pub cut_made : (actor : Actor) (event : Event) → IsMade actor event → IsCut (made_words actor event)
 cut_made actor event is = cut_words (actor_word actor) (deed_words actor event) (plain_deed actor event is)
 
 -- the step that is read from its words: one of the end by its `e`, and each other as a step line

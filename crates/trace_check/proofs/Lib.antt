@@ -1,0 +1,12 @@
+pub mod Actors
+pub mod Advances
+pub mod Counted
+pub mod Ended
+pub mod Extending
+pub mod Followed
+pub mod Known
+pub mod Refuted
+pub mod Runs
+pub mod Shares
+pub mod Texts
+pub mod Wanted

@@ -1,0 +1,4 @@
+pub mod Following
+pub mod Lines
+pub mod Scripts
+pub mod Verdicts
