@@ -5,12 +5,14 @@ the order of the race. So each reply, the entries of the end and the report are 
 
 Usage: races.py --program PATH --count N --seed S [--runs R] [--beside B] [--under WORDS]
 
-Races N random scenarios R times each, B at a time, and tells how many of them came out in more than one order. A seed
-has the same scenarios each time. The words, as 'taskset -c 0' or 'strace -f -o /dev/null', stand before the program's.
+Races N random scenarios R times each, B at a time, and tells how many of them came out in more than one order. Each
+third scenario is one of version 2 with 16 siblings, whose calls are dealt to 8 callers. A seed has the same scenarios
+each time. The words, as 'taskset -c 0' or 'strace -f -o /dev/null', stand before the program's.
 """
 import argparse
 import os
 import random
+import re
 import shlex
 import sys
 import time
@@ -58,6 +60,15 @@ def judged(data, run):
     return (None if is_right else 'a replay in its order writes something else'), tuple(order)
 
 
+def scenario(seed, k):
+    """The scenario of this number. Each third one is wide."""
+    rng = random.Random('%d/%d' % (seed, k))
+    if k % 3 != 2:
+        return scenarios.scenario(rng)
+    made = scenarios.Wide(rng, steps=rng.choice([80, 150, 400])).make().decode()
+    return re.sub(r'^step c\d', lambda _: 'step c%d' % rng.randrange(8), made, flags=re.M).encode()
+
+
 def main():
     p = argparse.ArgumentParser()
     p.add_argument('--program', required=True, help='the built program')
@@ -68,10 +79,11 @@ def main():
     p.add_argument('--under', default='', help='the words of a command that runs the program')
     a = p.parse_args()
     program = [*shlex.split(a.under), a.program]
-    began, wrong, many, most = time.time(), 0, 0, 0
+    began, wrong, many, most, widest = time.time(), 0, 0, 0, 0
     with ThreadPoolExecutor(a.beside) as pool:
         for k in range(a.count):
-            data = scenarios.scenario(random.Random('%d/%d' % (a.seed, k)))
+            data = scenario(a.seed, k)
+            widest = max(widest, len(scripts(steps_of(data))))
             ended = list(pool.map(lambda _: runs.ran([*program, 'race'], data), range(a.runs)))
             told = [judged(data, run) for run in ended]
             wrong += sum(fault is not None for fault, _ in told)
@@ -84,8 +96,8 @@ def main():
             orders = len({order for _, order in told})
             many += orders > 1
             most = max(most, orders)
-    print('races, seed %d: %d runs of %d scenarios, %d wrong; %d scenarios came out in more than one order, one in %d of %d; %.0f s'
-          % (a.seed, a.count * a.runs, a.count, wrong, many, most, a.runs, time.time() - began))
+    print('races, seed %d: %d runs of %d scenarios, %d wrong; %d scenarios came out in more than one order, one in %d of %d; at most %d actors; %.0f s'
+          % (a.seed, a.count * a.runs, a.count, wrong, many, most, a.runs, widest, time.time() - began))
     return 1 if wrong else 0
 
 

@@ -45,11 +45,17 @@ class Gen:
             return rt
         return ['stop'] * r.randint(0, 1) + fair + rt + dl
 
-    def head(self):
+    def core(self):
+        """Draws the version and the number of siblings, and returns the latter."""
         r = self.r
         self.version = r.choice([1, 2])
         sizes = [1, 2, 2, 2, 2, 3, 3, 3, 4, 4, 4, 5, 6, 7, 8, 8]
-        n = self.n = r.choice(sizes if self.version == 1 else sizes + [9, 10, 11, 12, 15, 16, 16, 16])
+        self.n = r.choice(sizes if self.version == 1 else sizes + [9, 10, 11, 12, 15, 16, 16, 16])
+        return self.n
+
+    def head(self):
+        r = self.r
+        n = self.core()
         if self.profile in ('snapshot', 'steal') and n == 1:
             n = self.n = r.choice([2, 3, 4])
         count = r.choice([0, 1, 2, 3, 3, 4, 4, 5, 5, 6, 8, 10, 14, 20])
@@ -354,6 +360,14 @@ class Gen:
             out.append('s%d turn' % t)
         out.append('s%d resched' % r.randrange(self.n))
         return out
+
+
+class Wide(Gen):
+    """A scenario with 16 siblings."""
+
+    def core(self):
+        self.version, self.n = 2, 16
+        return self.n
 
 
 BASE = dict(turn=30, resched=8, block=8, exit=1, tick=9, wake=18, advance=10, fork=2, prctl=10, setsched=4, offline=2, online=2,
