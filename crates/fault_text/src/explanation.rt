@@ -158,7 +158,7 @@ fn length_explained() -> Sentence {
     let mut said = Sentence::new();
     said.pieces(&[
         Piece::Text("a scenario has at most "),
-        Piece::Number(INPUT_BYTES as u64),
+        Piece::Number(u64::from(INPUT_BYTES)),
         Piece::Text(" bytes\n"),
     ]);
     said

@@ -5,7 +5,7 @@ use Rattle.std.proofs.lemmas.List.{append-nil, take-append-le}
 use Rattle.cs_outside.specs.Device.{prepended}
 use Rattle.scenario_input.specs.declared.stop.Stop.{Stop}
 use Rattle.scenario_input.specs.declared.stop.Stop.TheVariants.{ReadFault, TooLong, OutOfMemory}
-use Rattle.scenario_input.specs.Input.{IsReadAs, input_limit, count_read}
+use Rattle.scenario_input.specs.Input.{IsReadAs, count_read}
 
 -- no more than there were
 pub count_read-le : (text : List ℕ) (now : Option (List ℕ)) → count_read (Some text) now ≤ length text
@@ -38,36 +38,36 @@ read_so_far (Some text) (Some left) items P is holds =
     let count : length items ≡ length text - length left = omega (arith, ap length same, length-append items left) in
     subst P count holds
 
--- they are no more than an input may have
-module _ (before now : Option (List ℕ)) (items : List ℕ) (is : before ≡ prepended items now) (few : length items ≤ input_limit) where
-  pub few_most : IfSome before (λ _. count_read before now ≤ input_limit + 1)
-  few_most = read_so_far before now items (λ n. n ≤ input_limit + 1) is (omega arith)
+-- they are no more than the limit
+module _ (limit : ℕ) (before now : Option (List ℕ)) (items : List ℕ) (is : before ≡ prepended items now) (few : length items ≤ limit) where
+  pub few_most : IfSome before (λ _. count_read before now ≤ limit + 1)
+  few_most = read_so_far before now items (λ n. n ≤ limit + 1) is (omega arith)
 
-  pub few_told : (P : Type 0) → (P → ⊥) → IfSome before (λ _. P ↔ (input_limit < count_read before now))
-  few_told P none = read_so_far before now items (λ n. P ↔ (input_limit < n)) is (λ p. absurd (none p), λ many. absurd (omega arith))
+  pub few_told : (P : Type 0) → (P → ⊥) → IfSome before (λ _. P ↔ (limit < count_read before now))
+  few_told P none = read_so_far before now items (λ n. P ↔ (limit < n)) is (λ p. absurd (none p), λ many. absurd (omega arith))
 
 -- or one more
-module _ (before now : Option (List ℕ)) (items : List ℕ) (is : before ≡ prepended items now) (many : length items ≡ input_limit + 1) where
-  pub many_most : IfSome before (λ _. count_read before now ≤ input_limit + 1)
-  many_most = read_so_far before now items (λ n. n ≤ input_limit + 1) is (omega arith)
+module _ (limit : ℕ) (before now : Option (List ℕ)) (items : List ℕ) (is : before ≡ prepended items now) (many : length items ≡ limit + 1) where
+  pub many_most : IfSome before (λ _. count_read before now ≤ limit + 1)
+  many_most = read_so_far before now items (λ n. n ≤ limit + 1) is (omega arith)
 
-  pub many_told : (P : Type 0) → P → IfSome before (λ _. P ↔ (input_limit < count_read before now))
-  many_told P p = read_so_far before now items (λ n. P ↔ (input_limit < n)) is (λ q. omega arith, λ more. p)
+  pub many_told : (P : Type 0) → P → IfSome before (λ _. P ↔ (limit < count_read before now))
+  many_told P p = read_so_far before now items (λ n. P ↔ (limit < n)) is (λ q. omega arith, λ more. p)
 
 -- how long they are with so many of the bytes that were asked for
-pub few_more : (items bytes : List ℕ) (n len : ℕ) → len ≡ length items → length items ≤ input_limit → n ≤ input_limit - len → length (items ++ take n bytes) ≤ input_limit
-few_more items bytes n len is few fits = omega (arith, length-append items (take n bytes), length-take n bytes)
+pub few_more : (limit : ℕ) (items bytes : List ℕ) (n len : ℕ) → len ≡ length items → length items ≤ limit → n ≤ limit - len → length (items ++ take n bytes) ≤ limit
+few_more limit items bytes n len is few fits = omega (arith, length-append items (take n bytes), length-take n bytes)
 
-pub one_more : (items bytes buffer : List ℕ) (n len most : ℕ) → len ≡ length items → length items ≤ input_limit → most ≡ min 8192 (input_limit - len + 1) → length bytes ≡ length (take most buffer) → n ≤ length (take most buffer) → input_limit - len < n → length (items ++ take n bytes) ≡ input_limit + 1
-one_more items bytes buffer n len most is few cut kept within past = omega (arith, length-append items (take n bytes), length-take n bytes, length-take most buffer)
+pub one_more : (limit : ℕ) (items bytes buffer : List ℕ) (n len most : ℕ) → len ≡ length items → length items ≤ limit → most ≡ min 8192 (limit - len + 1) → length bytes ≡ length (take most buffer) → n ≤ length (take most buffer) → limit - len < n → length (items ++ take n bytes) ≡ limit + 1
+one_more limit items bytes buffer n len most is few cut kept within past = omega (arith, length-append items (take n bytes), length-take n bytes, length-take most buffer)
 
 -- the bytes so far, with as many as were put in front of the buffer
 module _ (items next bytes rest asked : List ℕ) (n : ℕ) (is : next ≡ items ++ take n (bytes ++ rest)) (kept : length bytes ≡ length asked) (within : n ≤ length asked) where
   pub next_is : next ≡ items ++ take n bytes
   next_is = is ∙ ap (λ more. items ++ more) (take-append-le n bytes rest (omega arith))
 
-  pub shorter : (n ≡ 0 → ⊥) → length items ≤ input_limit → input_limit + 1 - length next < input_limit + 1 - length items
-  shorter some few = omega (arith, ap length next_is, length-append items (take n bytes), length-take n bytes)
+  pub shorter : (limit : ℕ) → (n ≡ 0 → ⊥) → length items ≤ limit → limit + 1 - length next < limit + 1 - length items
+  shorter limit some few = omega (arith, ap length next_is, length-append items (take n bytes), length-take n bytes)
 
 -- what reading ends with where the bytes are not too many
 abbrev IsRead : {X : Type 0} → Result X Stop → Type 0

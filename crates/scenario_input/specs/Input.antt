@@ -13,6 +13,10 @@ use Rattle.scenario_text.specs.Reader.{HasNoScenario}
 abbrev pub input_limit : ℕ
 input_limit = 16777216
 
+-- the most bytes that a scenario and a printed run behind it may have together (this project's rule)
+abbrev pub judged_limit : ℕ
+judged_limit = 33554432
+
 -- how many bytes were read, where the source tells them
 abbrev pub count_read : Option (List ℕ) → Option (List ℕ) → ℕ
 count_read before now = option_map_or length before 0 - option_map_or length now 0

@@ -12,21 +12,24 @@ use scenario_text::read;
 use std::alloc::Global;
 
 /// The most bytes that an input may have.
-pub const INPUT_BYTES: usize = 16_777_216;
+pub const INPUT_BYTES: u32 = 16_777_216;
+
+/// The most bytes that a scenario and a printed run behind it may have together.
+pub const JUDGED_BYTES: u32 = 33_554_432;
 
 /// How many bytes are asked for at once.
 const BUFFER_BYTES: usize = 8192;
 
-/// The bytes of a source, read to their end. One more than an input may have ends the reading. It always
-/// returns, since each read takes a byte, is the end, or fails.
-fn read_to_end<S: Source>(alloc: Global, source: &mut S) -> Result<Vec<u8>, Stop>
+/// The bytes of a source, read to their end. One more than the limit ends the reading. It always returns, since each read
+/// takes a byte, is the end, or fails.
+pub fn read_to_end<S: Source>(alloc: Global, source: &mut S, limit: u32) -> Result<Vec<u8>, Stop>
     ensures whole { IfOk result
         (λ bytes. IsReadAs (S.left source.old) bytes.items (S.left source.new)) }
     ensures too_long { IfSome (S.left source.old) (λ _.
         (result ≡ Err Stop.TooLong)
-        ↔ (input_limit < count_read (S.left source.old) (S.left source.new))) }
+        ↔ (limit < count_read (S.left source.old) (S.left source.new))) }
     ensures most { IfSome (S.left source.old) (λ _.
-        count_read (S.left source.old) (S.left source.new) ≤ input_limit + 1) }
+        count_read (S.left source.old) (S.left source.new) ≤ limit + 1) }
     ensures bad { (line : _) (kind : _) → result ≢ Err (Stop.BadScenario line kind) }
     ensures guards { (line : _) (kind : _) → result ≢ Err (Stop.BadGuard line kind) }
 
@@ -38,7 +41,7 @@ fn read_to_end<S: Source>(alloc: Global, source: &mut S) -> Result<Vec<u8>, Stop
     let mut bytes = Vec::new(alloc);
     let mut buffer = [0; BUFFER_BYTES];
     loop {
-        let left = INPUT_BYTES - bytes.len();
+        let left = limit as usize - bytes.len();
         let most = BUFFER_BYTES.min(left + 1);
         let Ok(count) = source.read(&mut buffer[..most]) else {
             return Err(Stop::ReadFault);
@@ -86,7 +89,7 @@ pub fn read_and_keep<S: Source>(
         Rose (S.faults source.old) (S.faults source.new) }
     ensures counted { S.faults source.old ≤ S.faults source.new }
 {
-    *kept = read_to_end(alloc, source)?;
+    *kept = read_to_end(alloc, source, INPUT_BYTES)?;
     let scenario = read(alloc, kept)?;
     Ok(scenario)
 }

@@ -9,7 +9,7 @@ mod status;
 mod stop;
 mod teaching;
 
-pub use input::{INPUT_BYTES, read_and_keep, read_scenario};
+pub use input::{INPUT_BYTES, JUDGED_BYTES, read_and_keep, read_scenario, read_to_end};
 pub use playing::play;
 pub use program::{guards, words};
 pub use status::Status;

@@ -26,7 +26,8 @@ pub enum Status {
     /// a guard that was not handed in, or one that has as many pairs as it can be taught.
     #[error("line {line}: guard {kind:?}")]
     BadGuard { line: u32, kind: GuardKind },
-    /// More than 16,777,216 bytes were read.
+    /// More bytes were read than an input may have: 16,777,216, or 33,554,432 if a printed run stands behind the
+    /// scenario.
     #[error("input too long")]
     TooLong,
     /// The source failed.
