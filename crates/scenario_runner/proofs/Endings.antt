@@ -26,18 +26,21 @@ use Rattle.cs_types.specs.Room.{Opening}
 use Rattle.cs_types.specs.History.{History}
 use Rattle.scenario_runner.specs.Outcomes.{opened_with, Outputs, BreaksOff}
 use Rattle.scenario_runner.specs.Written.{WritesOutput, IsShort}
-use Rattle.scenario_runner.specs.Ends.{Used, FaultsRose, IsFaultless, IsBadGuard, EndsAs}
+use Rattle.scenario_runner.specs.Ends.{Used, FaultsRose, IsFaultless, ReadsAndWrites, IsBadGuard, EndsAs}
 
 -- ---- what is known once the input was read, or was not
 
-pub record HasRead {S T : Type 0} (caps : List ℕ) (source : Used S) (read : Result T Stop) : Type 0 where
+pub record HasReadInput {S T : Type 0} (limit : ℕ) (source : Used S) (read : Result T Stop) : Type 0 where
   pub faultless : read ≢ Err ReadFault → IsFaultless source
   pub failed : read ≡ Err ReadFault → Rose (source.faults source.before) (source.faults source.after)
   pub few : source.faults source.before < 2 ^ 64 - 1
   pub too_long : IfSome (source.bytes source.before) (λ _.
-      (read ≡ Err TooLong) ↔ (input_limit < count_read (source.bytes source.before) (source.bytes source.after)))
+      (read ≡ Err TooLong) ↔ (limit < count_read (source.bytes source.before) (source.bytes source.after)))
   pub most : IfSome (source.bytes source.before) (λ _.
-      count_read (source.bytes source.before) (source.bytes source.after) ≤ input_limit + 1)
+      count_read (source.bytes source.before) (source.bytes source.after) ≤ limit + 1)
+
+pub record HasRead {S T : Type 0} (caps : List ℕ) (source : Used S) (read : Result T Stop) : Type 0 where
+  pub devices : HasReadInput input_limit source read
   pub bad : (line : ℕ) (kind : BadKind) → read ≡ Err (BadScenario line kind) →
       IsBad line kind (source.bytes source.before) (source.bytes source.after)
   pub first : (bytes : List ℕ) (line : ℕ) (kind : BadKind) → source.bytes source.before ≡ Some bytes → length bytes ≤ input_limit →
@@ -94,6 +97,46 @@ both_none bad one some none = let wrong : Some one ≡ None = sym some ∙ none 
 as_told : (line : ℕ) (kind : GuardKind) (bad : BadTeach) → Some (record { line = line; kind = kind }) ≡ Some bad → status.BadGuard line kind ≡ status.BadGuard bad.line bad.kind
 as_told line kind bad same = let is : record { line = line; kind = kind } ≡ bad = cc in ap (λ (b : BadTeach). status.BadGuard b.line b.kind) is
 
+-- ---- how the devices are used
+
+module _ {S K T : Type 0} (limit : ℕ) (source : Used S) (sink : Used K) (read : Result T Stop) where
+  pub devices_done : (value : T) → HasReadInput limit source read → read ≡ Ok value → IsFaultless sink → ReadsAndWrites limit source sink status.Done
+  devices_done value has is calm =
+      record {
+        faultless = (λ _. has.faultless (not_both read value ReadFault is), λ _. calm);
+        good_words = λ e. absurd cc;
+        read_fault = λ e. absurd cc;
+        too_long = same_where_told (source.bytes source.before) _ (λ e. absurd (not_both read value TooLong is e)) (λ e. absurd cc) has.too_long;
+        most = has.most;
+        write_fault = λ e. absurd cc;
+        unwritten = λ other _. absurd (other refl);
+      }
+
+  pub devices_failed : (value : T) → HasReadInput limit source read → read ≡ Ok value → FaultsRose sink → ReadsAndWrites limit source sink status.WriteFault
+  devices_failed value has is failed =
+      record {
+        faultless = (λ _. has.faultless (not_both read value ReadFault is), λ other. absurd (other refl));
+        good_words = λ e. absurd cc;
+        read_fault = λ e. absurd cc;
+        too_long = same_where_told (source.bytes source.before) _ (λ e. absurd (not_both read value TooLong is e)) (λ e. absurd cc) has.too_long;
+        most = has.most;
+        write_fault = λ _. failed;
+        unwritten = λ _ other. absurd (other refl);
+      }
+
+  pub devices_stopped : (stop : Stop) → HasReadInput limit source read → read ≡ Err stop → sink.after ≡ sink.before → ReadsAndWrites limit source sink (status_of stop)
+  devices_stopped stop has is same =
+      record {
+        faultless = (λ other. has.faultless (λ e. other (ap status_of (same_error read stop ReadFault is e))), λ _. ap sink.faults same);
+        good_words = λ e. absurd (stop_not_words stop e);
+        read_fault = λ e. omega (arith, has.failed (is ∙ ap Err (stop_read stop e)), has.few);
+        too_long =
+            same_where_told (source.bytes source.before) _ (λ e. ap status_of (same_error read stop TooLong is e)) (λ e. is ∙ ap Err (stop_long stop e)) has.too_long;
+        most = has.most;
+        write_fault = λ e. absurd (stop_not_write stop e);
+        unwritten = λ _ _. same;
+      }
+
 -- ---- how it ends
 
 pub ends_done : {S K T : Type 0} (IsOutcome : Opening → History → Type 0) (caps : List ℕ) (source : Used S) (sink : Used K) (read : Result T Stop) (value : T) →
@@ -104,15 +147,10 @@ pub ends_done : {S K T : Type 0} (IsOutcome : Opening → History → Type 0) (c
 ends_done IsOutcome caps source sink read value has is calm scenario outputs taught =
     record {
       done = λ _. (scenario, outputs);
-      faultless = (λ _. has.faultless (not_both read value ReadFault is), λ _. calm);
-      good_words = λ e. absurd cc;
-      read_fault = λ e. absurd cc;
-      too_long = same_where_told (source.bytes source.before) _ (λ e. absurd (not_both read value TooLong is e)) (λ e. absurd cc) has.too_long;
-      most = has.most;
+      devices = devices_done input_limit source sink read value has.devices is calm;
       bad_scenario = λ line kind e. absurd cc;
       bad_guard = λ line kind e. absurd cc;
       write_fault = λ e. absurd cc;
-      unwritten = λ other _. absurd (other refl);
       complete = λ told valid text fits all calm_source calm_sink. inl refl;
       told_line = λ bytes line kind told fits bad calm_source. absurd (not_bad scenario bytes line kind _ _ told bad outputs.reads);
       told = λ told bad valid text fits one calm_source.
@@ -127,15 +165,10 @@ pub ends_write_fault : {S K T : Type 0} (IsOutcome : Opening → History → Typ
 ends_write_fault IsOutcome caps source sink read value has is failed scenario breaks taught =
     record {
       done = λ e. absurd cc;
-      faultless = (λ _. has.faultless (not_both read value ReadFault is), λ other. absurd (other refl));
-      good_words = λ e. absurd cc;
-      read_fault = λ e. absurd cc;
-      too_long = same_where_told (source.bytes source.before) _ (λ e. absurd (not_both read value TooLong is e)) (λ e. absurd cc) has.too_long;
-      most = has.most;
+      devices = devices_failed input_limit source sink read value has.devices is failed;
       bad_scenario = λ line kind e. absurd cc;
       bad_guard = λ line kind e. absurd cc;
-      write_fault = λ _. (failed, (scenario, breaks));
-      unwritten = λ _ other. absurd (other refl);
+      write_fault = λ _. (scenario, breaks);
       complete = λ told valid text fits all calm_source calm_sink. absurd (omega (arith, failed, calm_sink));
       told_line = λ bytes line kind told fits bad calm_source. absurd (not_bad scenario bytes line kind _ _ told bad breaks.reads);
       told = λ told bad valid text fits one calm_source.
@@ -173,16 +206,10 @@ pub ends_stopped : {S K T : Type 0} (IsOutcome : Opening → History → Type 0)
 ends_stopped IsOutcome caps source sink read stop has is same =
     record {
       done = λ e. absurd (stop_not_done stop e);
-      faultless = (λ other. has.faultless (λ e. other (ap status_of (same_error read stop ReadFault is e))), λ _. ap sink.faults same);
-      good_words = λ e. absurd (stop_not_words stop e);
-      read_fault = λ e. omega (arith, has.failed (is ∙ ap Err (stop_read stop e)), has.few);
-      too_long =
-          same_where_told (source.bytes source.before) _ (λ e. ap status_of (same_error read stop TooLong is e)) (λ e. is ∙ ap Err (stop_long stop e)) has.too_long;
-      most = has.most;
+      devices = devices_stopped input_limit source sink read stop has.devices is same;
       bad_scenario = λ line kind e. has.bad line kind (is ∙ ap Err (stop_bad stop line kind e));
       bad_guard = λ line kind e. has.bad_guard line kind (is ∙ ap Err (stop_guard stop line kind e));
       write_fault = λ e. absurd (stop_not_write stop e);
-      unwritten = λ _ _. same;
       complete = λ scenario valid text fits all calm_source calm_sink. elim (why scenario valid text fits calm_source) [
         | inl memory ↦ inr memory
         | inr guard ↦
@@ -190,7 +217,7 @@ ends_stopped IsOutcome caps source sink read stop has is same =
             absurd (both_none _ _ (first_told caps scenario guard.0 guard.1 _ _ text valid bad) all)
       ];
       told_line = λ bytes line kind told fits bad calm_source.
-          let calm = λ (e : read ≡ Err ReadFault). let rose = has.failed e in let few = has.few in absurd (omega (arith, calm_source)) in
+          let calm = λ (e : read ≡ Err ReadFault). let rose = has.devices.failed e in let few = has.devices.few in absurd (omega (arith, calm_source)) in
           elim (has.first bytes line kind told fits bad calm) [
             | inl found ↦ inl (ap status_of (same_error read stop (BadScenario line kind) is found))
             | inr memory ↦ inr (ap status_of (same_error read stop OutOfMemory is memory))
@@ -207,22 +234,24 @@ ends_stopped IsOutcome caps source sink read stop has is same =
       why scenario valid text fits calm_source =
           let long = λ (e : stop ≡ TooLong).
           (subst
-          (λ (told : Option (List ℕ)). IfSome told (λ _. (read ≡ Err TooLong) ↔ (input_limit < count_read told (source.bytes source.after)))) text has.too_long).0
+          (λ (told : Option (List ℕ)). IfSome told (λ _. (read ≡ Err TooLong) ↔ (input_limit < count_read told (source.bytes source.after)))) text has.devices.too_long).0
           (is ∙ ap Err e) in
           let bad = λ (line : ℕ) (kind : BadKind) (e : stop ≡ BadScenario line kind).
           subst (λ (told : Option (List ℕ)). IsBad line kind told (source.bytes source.after)) text (has.bad line kind (is ∙ ap Err e)) in
-          let failed = λ (e : stop ≡ ReadFault). has.failed (is ∙ ap Err e) in
-          stop_complete stop (source.bytes source.after) (source.faults source.before) (source.faults source.after) scenario long bad failed has.few valid fits calm_source
+          let failed = λ (e : stop ≡ ReadFault). has.devices.failed (is ∙ ap Err e) in
+          stop_complete stop (source.bytes source.after) (source.faults source.before) (source.faults source.after) scenario long bad failed has.devices.few valid fits calm_source
 
 -- An input that was read, and then there was no memory, is as one that was not read for lack of it.
 pub short_of_memory : {S T : Type 0} (caps : List ℕ) (source : Used S) (read : Result T Stop) (value : T) → HasRead caps source read → read ≡ Ok value → HasRead {T = T} caps source (Err OutOfMemory)
 short_of_memory caps source read value has is =
     record {
-      faultless = λ _. has.faultless (not_both read value ReadFault is);
-      failed = λ e. absurd cc;
-      few = has.few;
-      too_long = neither_long (source.bytes source.before) _ read (Err OutOfMemory) value is refl has.too_long;
-      most = has.most;
+      devices = record {
+        faultless = λ _. has.devices.faultless (not_both read value ReadFault is);
+        failed = λ e. absurd cc;
+        few = has.devices.few;
+        too_long = neither_long (source.bytes source.before) _ read (Err OutOfMemory) value is refl has.devices.too_long;
+        most = has.devices.most;
+      };
       bad = λ line kind e. absurd cc;
       first = λ bytes line kind told fits bad calm. inr refl;
       bad_guard = λ line kind e. absurd cc;

@@ -15,18 +15,18 @@ use Rattle.scenario_text.specs.Upgrade.{renumbered, upgraded}
 use Rattle.scenario_writer.proofs.Upgrades.{valid_upgraded}
 use Rattle.room_report.specs.Report.{report_text, output_text}
 use Rattle.scenario_input.specs.declared.stop.Stop.{Stop}
-use Rattle.scenario_input.specs.declared.stop.Stop.TheVariants.{ReadFault, TooLong, BadGuard}
+use Rattle.scenario_input.specs.declared.stop.Stop.TheVariants.{BadGuard}
 use Rattle.scenario_input.specs.declared.stop.GuardKind.{GuardKind}
 use Rattle.scenario_input.specs.declared.status.Status.{Status}
 use Rattle.scenario_input.specs.declared.status.Status.TheVariants as status
-use Rattle.scenario_input.specs.Input.{Reads}
+use Rattle.scenario_input.specs.Input.{Reads, input_limit}
 use Rattle.scenario_input.specs.Stop.{status_of}
 use Rattle.scenario_input.specs.Teaching.{BadTeach, first_bad}
 use Rattle.scenario_input.proofs.Stops.{stop_guard}
 use Rattle.cs_types.specs.Room.{RoomState, Opening, start}
 use Rattle.scenario_runner.specs.Ends.{Used, FaultsRose, IsFaultless, EndsAs, EndsAsUpgrade}
 use Rattle.scenario_runner.specs.Written.{IsWritten}
-use Rattle.scenario_runner.proofs.Endings.{HasRead, not_both, same_where_told, not_bad, ends_stopped}
+use Rattle.scenario_runner.proofs.Endings.{HasRead, not_bad, devices_done, devices_failed, ends_stopped}
 
 -- guards are taught the same by lines of other numbers
 taught_same : (first : ℕ) (teaches : List Teach) (index : ℕ) → taught (renumbered first teaches) index ≡ taught teaches index
@@ -64,15 +64,10 @@ ends_upgraded source sink read scenario ended has is reads few written =
           rw done
           (record {
             done = λ _. (scenario, record { reads = reads; writes = written.whole done; valid = valid_upgraded scenario reads.valid; same_output = same_output scenario });
-            faultless = (λ _. calm, λ _. written.faultless done);
-            good_words = λ e. absurd cc;
-            read_fault = λ e. absurd cc;
-            too_long = same_where_told (source.bytes source.before) _ (λ e. absurd (not_both read scenario TooLong is e)) (λ e. absurd cc) has.too_long;
-            most = has.most;
+            devices = devices_done input_limit source sink read scenario has.devices is (written.faultless done);
             bad_scenario = λ line kind e. absurd cc;
             no_guard = λ line kind e. absurd cc;
             write_fault = λ e. absurd cc;
-            unwritten = λ other _. absurd (other refl);
             complete = λ told valid text fits calm_source calm_sink. inl refl;
             told_line = λ bytes line kind told fits bad calm_source. absurd (not_bad scenario bytes line kind _ _ told bad reads);
           })
@@ -80,22 +75,14 @@ ends_upgraded source sink read scenario ended has is reads few written =
           rw fault
           (record {
             done = λ e. absurd cc;
-            faultless = (λ _. calm, λ other. absurd (other refl));
-            good_words = λ e. absurd cc;
-            read_fault = λ e. absurd cc;
-            too_long = same_where_told (source.bytes source.before) _ (λ e. absurd (not_both read scenario TooLong is e)) (λ e. absurd cc) has.too_long;
-            most = has.most;
+            devices = devices_failed input_limit source sink read scenario has.devices is (rose fault);
             bad_scenario = λ line kind e. absurd cc;
             no_guard = λ line kind e. absurd cc;
-            write_fault = λ _. (rose fault, (scenario, record { reads = reads; writes = written.prefix }));
-            unwritten = λ _ other. absurd (other refl);
+            write_fault = λ _. (scenario, record { reads = reads; writes = written.prefix });
             complete = λ told valid text fits calm_source calm_sink. let failed = rose fault in absurd (omega (arith, failed, calm_sink));
             told_line = λ bytes line kind told fits bad calm_source. absurd (not_bad scenario bytes line kind _ _ told bad reads);
           })
     ] where
-      calm : IsFaultless source
-      calm = has.faultless (not_both read scenario ReadFault is)
-
       rose : ended ≡ status.WriteFault → FaultsRose sink
       rose fault = omega (arith, written.failed fault, few)
 
@@ -105,15 +92,10 @@ pub ends_unread : {S K : Type 0} (source : Used S) (sink : Used K) (read : Resul
 ends_unread source sink read stop has is no_guard same =
     record {
       done = λ e. absurd (ends.done e).1.outcome;
-      faultless = ends.faultless;
-      good_words = ends.good_words;
-      read_fault = ends.read_fault;
-      too_long = ends.too_long;
-      most = ends.most;
+      devices = ends.devices;
       bad_scenario = ends.bad_scenario;
       no_guard = none;
-      write_fault = λ e. absurd (ends.write_fault e).1.1.outcome;
-      unwritten = ends.unwritten;
+      write_fault = λ e. absurd (ends.write_fault e).1.outcome;
       complete = λ scenario valid text fits calm_source calm_sink. by_teaches scenario (first_bad [] scenario.teaches) refl valid text fits calm_source calm_sink;
       told_line = ends.told_line;
     } where
@@ -124,7 +106,7 @@ ends_unread source sink read stop has is no_guard same =
       none line kind e = no_guard line kind (is ∙ ap Err (stop_guard stop line kind e))
 
       by_teaches : (scenario : Scenario) (bad : Option BadTeach) → first_bad [] scenario.teaches ≡ bad → IsValid scenario →
-          source.bytes source.before ≡ Some (scenario_text scenario) → length (scenario_text scenario) ≤ 16777216 → IsFaultless source → IsFaultless sink →
+          source.bytes source.before ≡ Some (scenario_text scenario) → length (scenario_text scenario) ≤ input_limit → IsFaultless source → IsFaultless sink →
           (status_of stop ≡ status.Done) ⊎ (status_of stop ≡ status.OutOfMemory)
       by_teaches scenario None all valid text fits calm_source calm_sink = ends.complete scenario valid text fits all calm_source calm_sink
       by_teaches scenario (Some bad) one valid text fits calm_source calm_sink = elim (ends.told scenario bad valid text fits one calm_source) [

@@ -32,6 +32,27 @@ FaultsRose device = device.faults device.before < device.faults device.after
 abbrev pub IsFaultless : {D : Type 0} → Used D → Type 0
 IsFaultless device = device.faults device.after ≡ device.faults device.before
 
+-- How a command uses its devices that reads an input of at most so many bytes to its end and then writes a text. When
+-- memory runs out is left open.
+pub record ReadsAndWrites {S K : Type 0} (limit : ℕ) (source : Used S) (sink : Used K) (status : Status) : Type 0 where
+  -- no fault of the source was counted, unless a read fault is the answer, and none of the sink, unless a write fault
+  -- is
+  pub faultless : (status ≢ ReadFault → IsFaultless source) × (status ≢ WriteFault → IsFaultless sink)
+  -- its own words are never bad
+  pub good_words : status ≢ BadWords
+  -- only if the source failed
+  pub read_fault : status ≡ ReadFault → FaultsRose source
+  -- exactly if more bytes were read than an input may have, of a source whose bytes are known
+  pub too_long : IfSome (source.bytes source.before) (λ _.
+      (status ≡ TooLong) ↔ (limit < count_read (source.bytes source.before) (source.bytes source.after)))
+  -- no more is read than one byte beyond that
+  pub most : IfSome (source.bytes source.before) (λ _.
+      count_read (source.bytes source.before) (source.bytes source.after) ≤ limit + 1)
+  -- only if the sink failed
+  pub write_fault : status ≡ WriteFault → FaultsRose sink
+  -- nothing was written unless it is done or the sink failed
+  pub unwritten : status ≢ Done → status ≢ WriteFault → sink.after ≡ sink.before
+
 -- The input is a scenario, and this is its first teach line that cannot be carried out, by how many pairs each guard
 -- can be taught.
 pub record IsBadGuard (caps : List ℕ) (at : ℕ) (what : GuardKind) (input left : Option (List ℕ)) : Type 0 where
@@ -46,30 +67,17 @@ pub record EndsAs {S K : Type 0} (IsOutcome : Opening → History → Type 0) (c
   -- report
   pub done : status ≡ Done → (scenario : Scenario) ×
       Outputs IsOutcome (opened_with caps scenario) (source.bytes source.before) (source.bytes source.after) (sink.bytes sink.before) (sink.bytes sink.after)
-  -- no fault of the source was counted, unless a read fault is the answer, and none of the sink, unless a write fault
-  -- is
-  pub faultless : (status ≢ ReadFault → IsFaultless source) × (status ≢ WriteFault → IsFaultless sink)
-  -- its own words are never bad
-  pub good_words : status ≢ BadWords
-  -- only if the source failed
-  pub read_fault : status ≡ ReadFault → FaultsRose source
-  -- exactly if more bytes were read than an input may have, of a source whose bytes are known
-  pub too_long : IfSome (source.bytes source.before) (λ _.
-      (status ≡ TooLong) ↔ (input_limit < count_read (source.bytes source.before) (source.bytes source.after)))
-  -- no more is read than one byte beyond that
-  pub most : IfSome (source.bytes source.before) (λ _.
-      count_read (source.bytes source.before) (source.bytes source.after) ≤ input_limit + 1)
+  -- its devices are used as by each command that reads and writes
+  pub devices : ReadsAndWrites input_limit source sink status
   -- only if the input was read to its end and no valid scenario has that text, with its first bad line and kind
   pub bad_scenario : (line : ℕ) (kind : BadKind) → status ≡ BadScenario line kind →
       IsBad line kind (source.bytes source.before) (source.bytes source.after)
   -- only if the input is a scenario, and this is its first teach line that cannot be carried out
   pub bad_guard : (line : ℕ) (kind : GuardKind) → status ≡ BadGuard line kind →
       IsBadGuard caps line kind (source.bytes source.before) (source.bytes source.after)
-  -- only if the sink failed, and then a prefix of the output was written
-  pub write_fault : status ≡ WriteFault → FaultsRose sink × ((scenario : Scenario) ×
-      BreaksOff IsOutcome (opened_with caps scenario) (source.bytes source.before) (source.bytes source.after) (sink.bytes sink.before) (sink.bytes sink.after))
-  -- nothing was written unless it is done or the sink failed
-  pub unwritten : status ≢ Done → status ≢ WriteFault → sink.after ≡ sink.before
+  -- at a write fault a prefix of the output was written
+  pub write_fault : status ≡ WriteFault → (scenario : Scenario) ×
+      BreaksOff IsOutcome (opened_with caps scenario) (source.bytes source.before) (source.bytes source.after) (sink.bytes sink.before) (sink.bytes sink.after)
   -- it gives up on no valid scenario all of whose teach lines can be carried out, if nothing failed
   pub complete : (scenario : Scenario) → IsValid scenario →
       source.bytes source.before ≡ Some (scenario_text scenario) → length (scenario_text scenario) ≤ input_limit →
@@ -111,29 +119,16 @@ pub record EndsAsUpgrade {S K : Type 0} (source : Used S) (sink : Used K) (statu
   -- if it is done, what was read is the text of a scenario, and what was written is its text in version 2
   pub done : status ≡ Done → (scenario : Scenario) ×
       Upgrades scenario (source.bytes source.before) (source.bytes source.after) (sink.bytes sink.before) (sink.bytes sink.after)
-  -- no fault of the source was counted, unless a read fault is the answer, and none of the sink, unless a write fault
-  -- is
-  pub faultless : (status ≢ ReadFault → IsFaultless source) × (status ≢ WriteFault → IsFaultless sink)
-  -- its own words are never bad
-  pub good_words : status ≢ BadWords
-  -- only if the source failed
-  pub read_fault : status ≡ ReadFault → FaultsRose source
-  -- exactly if more bytes were read than an input may have, of a source whose bytes are known
-  pub too_long : IfSome (source.bytes source.before) (λ _.
-      (status ≡ TooLong) ↔ (input_limit < count_read (source.bytes source.before) (source.bytes source.after)))
-  -- no more is read than one byte beyond that
-  pub most : IfSome (source.bytes source.before) (λ _.
-      count_read (source.bytes source.before) (source.bytes source.after) ≤ input_limit + 1)
+  -- its devices are used as by each command that reads and writes
+  pub devices : ReadsAndWrites input_limit source sink status
   -- only if the input was read to its end and no valid scenario has that text, with its first bad line and kind
   pub bad_scenario : (line : ℕ) (kind : BadKind) → status ≡ BadScenario line kind →
       IsBad line kind (source.bytes source.before) (source.bytes source.after)
   -- no guard is handed in, and none is missed
   pub no_guard : (line : ℕ) (kind : GuardKind) → status ≢ BadGuard line kind
-  -- only if the sink failed, and then a prefix of the text was written
-  pub write_fault : status ≡ WriteFault → FaultsRose sink × ((scenario : Scenario) ×
-      UpgradeBreaksOff scenario (source.bytes source.before) (source.bytes source.after) (sink.bytes sink.before) (sink.bytes sink.after))
-  -- nothing was written unless it is done or the sink failed
-  pub unwritten : status ≢ Done → status ≢ WriteFault → sink.after ≡ sink.before
+  -- at a write fault a prefix of the text was written
+  pub write_fault : status ≡ WriteFault → (scenario : Scenario) ×
+      UpgradeBreaksOff scenario (source.bytes source.before) (source.bytes source.after) (sink.bytes sink.before) (sink.bytes sink.after)
   -- it gives up on no valid scenario, if nothing failed
   pub complete : (scenario : Scenario) → IsValid scenario →
       source.bytes source.before ≡ Some (scenario_text scenario) → length (scenario_text scenario) ≤ input_limit →

@@ -57,9 +57,9 @@ pub is_taken : {S T : Type 0} (caps : List ℕ) (source : Used S) (read : Result
 is_taken caps source read value scenario opening has is opened =
     record {
       reads = opened.reads;
-      fits = fits_where (source.bytes source.before) _ read value is has.too_long;
+      fits = fits_where (source.bytes source.before) _ read value is has.devices.too_long;
       taught = opened.taught;
-      faultless = has.faultless (not_both read value stops.ReadFault is);
+      faultless = has.devices.faultless (not_both read value stops.ReadFault is);
     }
 
 -- ---- how a command ends that tells something of a run

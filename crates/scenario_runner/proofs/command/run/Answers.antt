@@ -5,11 +5,11 @@ use Rattle.scenario_runner.proofs.command.run.Goals as goal
 
 pub returns-in-Some-Replay-clause-bad_words : goal.returns-in-Some-Replay-clause-bad_words
 returns-in-Some-Replay-clause-bad_words g c =
-    known_words c.command_of.result c.args.words.now Replay c.replayed.result c.command_of.ensures.asked (c.in-Some-Replay.is ∙ ap Some c.in-Some-Replay.field-0-is) c.replayed.ensures.good_words
+    known_words c.command_of.result c.args.words.now Replay c.replayed.result c.command_of.ensures.asked (c.in-Some-Replay.is ∙ ap Some c.in-Some-Replay.field-0-is) c.replayed.ensures.devices.good_words
 
 pub returns-in-Some-Race-clause-bad_words : goal.returns-in-Some-Race-clause-bad_words
 returns-in-Some-Race-clause-bad_words g c =
-    known_words c.command_of.result c.args.words.now Race c.raced.result c.command_of.ensures.asked (c.in-Some-Race.is ∙ ap Some c.in-Some-Race.field-0-is) c.raced.ensures.good_words
+    known_words c.command_of.result c.args.words.now Race c.raced.result c.command_of.ensures.asked (c.in-Some-Race.is ∙ ap Some c.in-Some-Race.field-0-is) c.raced.ensures.devices.good_words
 
 pub returns-in-Some-Drill-clause-bad_words : goal.returns-in-Some-Drill-clause-bad_words
 returns-in-Some-Drill-clause-bad_words g c =
@@ -18,4 +18,4 @@ returns-in-Some-Drill-clause-bad_words g c =
 
 pub returns-in-Some-Upgrade-clause-bad_words : goal.returns-in-Some-Upgrade-clause-bad_words
 returns-in-Some-Upgrade-clause-bad_words g c =
-    known_words c.command_of.result c.args.words.now Upgrade c.upgraded.result c.command_of.ensures.asked (c.in-Some-Upgrade.is ∙ ap Some c.in-Some-Upgrade.field-0-is) c.upgraded.ensures.good_words
+    known_words c.command_of.result c.args.words.now Upgrade c.upgraded.result c.command_of.ensures.asked (c.in-Some-Upgrade.is ∙ ap Some c.in-Some-Upgrade.field-0-is) c.upgraded.ensures.devices.good_words

@@ -8,11 +8,13 @@ pub returns-in-Ok : goal.returns-in-Ok
 returns-in-Ok g c =
     ends_replayed _ _ _ c.opened.result (c.in-Ok.scenario, c.in-Ok.room) c.in-Ok.scenario (g.R.Room.opening c.in-Ok.room) c.items.result.now c.write_replay.result
     (record {
-      faultless = c.opened.ensures.faultless;
-      failed = c.opened.ensures.failed;
-      few = c.requires.source;
-      too_long = c.opened.ensures.too_long;
-      most = c.opened.ensures.most;
+      devices = record {
+        faultless = c.opened.ensures.faultless;
+        failed = c.opened.ensures.failed;
+        few = c.requires.source;
+        too_long = c.opened.ensures.too_long;
+        most = c.opened.ensures.most;
+      };
       bad = c.opened.ensures.bad;
       first = c.opened.ensures.first;
       bad_guard = c.opened.ensures.bad_guard;
@@ -24,11 +26,13 @@ returns-in-Err g c =
     rw c.from.ensures
     (ends_stopped IsReplayHistory _ _ _ c.opened.result c.in-Err.stop
     (record {
-      faultless = c.opened.ensures.faultless;
-      failed = c.opened.ensures.failed;
-      few = c.requires.source;
-      too_long = c.opened.ensures.too_long;
-      most = c.opened.ensures.most;
+      devices = record {
+        faultless = c.opened.ensures.faultless;
+        failed = c.opened.ensures.failed;
+        few = c.requires.source;
+        too_long = c.opened.ensures.too_long;
+        most = c.opened.ensures.most;
+      };
       bad = c.opened.ensures.bad;
       first = c.opened.ensures.first;
       bad_guard = c.opened.ensures.bad_guard;

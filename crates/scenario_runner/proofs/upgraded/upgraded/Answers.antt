@@ -6,11 +6,13 @@ pub returns-in-Ok : goal.returns-in-Ok
 returns-in-Ok g c =
     ends_upgraded _ _ c.read_scenario.result c.in-Ok.scenario c.write_upgraded.result
     (record {
-      faultless = c.read_scenario.ensures.faultless;
-      failed = c.read_scenario.ensures.failed;
-      few = c.requires.source;
-      too_long = c.read_scenario.ensures.too_long;
-      most = c.read_scenario.ensures.most;
+      devices = record {
+        faultless = c.read_scenario.ensures.faultless;
+        failed = c.read_scenario.ensures.failed;
+        few = c.requires.source;
+        too_long = c.read_scenario.ensures.too_long;
+        most = c.read_scenario.ensures.most;
+      };
       bad = c.read_scenario.ensures.bad;
       first = c.read_scenario.ensures.first;
       bad_guard = λ line kind e. absurd (c.read_scenario.ensures.guards line kind e);
@@ -22,11 +24,13 @@ returns-in-Err g c =
     rw c.from.ensures
     (ends_unread _ _ c.read_scenario.result c.in-Err.stop
     (record {
-      faultless = c.read_scenario.ensures.faultless;
-      failed = c.read_scenario.ensures.failed;
-      few = c.requires.source;
-      too_long = c.read_scenario.ensures.too_long;
-      most = c.read_scenario.ensures.most;
+      devices = record {
+        faultless = c.read_scenario.ensures.faultless;
+        failed = c.read_scenario.ensures.failed;
+        few = c.requires.source;
+        too_long = c.read_scenario.ensures.too_long;
+        most = c.read_scenario.ensures.most;
+      };
       bad = c.read_scenario.ensures.bad;
       first = c.read_scenario.ensures.first;
       bad_guard = λ line kind e. absurd (c.read_scenario.ensures.guards line kind e);

@@ -5,11 +5,13 @@ pub returns-in-Ok : goal.returns-in-Ok
 returns-in-Ok g c =
     ends_counted _ _ _ c.taken.result c.in-Ok.scenario c.write_counts.result
     (record {
-      faultless = c.taken.ensures.faultless;
-      failed = c.taken.ensures.failed;
-      few = c.requires.source;
-      too_long = c.taken.ensures.too_long;
-      most = c.taken.ensures.most;
+      devices = record {
+        faultless = c.taken.ensures.faultless;
+        failed = c.taken.ensures.failed;
+        few = c.requires.source;
+        too_long = c.taken.ensures.too_long;
+        most = c.taken.ensures.most;
+      };
       bad = c.taken.ensures.bad;
       first = c.taken.ensures.first;
       bad_guard = c.taken.ensures.bad_guard;
@@ -20,11 +22,13 @@ pub returns : goal.returns
 returns g c =
     ends_said _ _ _ c.taken.result c.in-Err.stop c.write_explanation.result
     (record {
-      faultless = c.taken.ensures.faultless;
-      failed = c.taken.ensures.failed;
-      few = c.requires.source;
-      too_long = c.taken.ensures.too_long;
-      most = c.taken.ensures.most;
+      devices = record {
+        faultless = c.taken.ensures.faultless;
+        failed = c.taken.ensures.failed;
+        few = c.requires.source;
+        too_long = c.taken.ensures.too_long;
+        most = c.taken.ensures.most;
+      };
       bad = c.taken.ensures.bad;
       first = c.taken.ensures.first;
       bad_guard = c.taken.ensures.bad_guard;
