@@ -1,6 +1,7 @@
 -- UsualSteps: the steps of lines that are taken one by one are those of a plan that grows, line by line.
 use Rattle.std.proofs.Common.{◌≡◌, ℕ, ◌<◌, ◌≤◌, Bool, true, List, length, Ok, refl, sym, ◌∙◌, arith}
 use Rattle.std.proofs.lemmas.Bool.{lt-ltb}
+use Rattle.std.proofs.lemmas.List.{length_push}
 use Rattle.cs_types.specs.declared.event.Step.{Step}
 use Rattle.scenario_text.specs.declared.head.Head.{Head}
 use Rattle.scenario_text.specs.declared.line.ScenarioLine.TheVariants as forms
@@ -34,3 +35,17 @@ so_far_taken head is start plan lines so_far named same _ rest (taken_more {step
     let grows = step_grows head.version head.siblings head.task_limit here step before.0.is fits (sym checked) in
     let shorter = is_shorter _ _ _ _ _ next.lines_are next.rest_is in
     (grown head is start here left before.0 (forms.Step step) rest (with_step step here) next grows, omega (arith, before.1, shorter))
+
+-- steps that are taken, and then more
+pub taken_then : (siblings : ℕ) (named : Bool) (before : List Step) (lines : List (List Word)) (steps : List Step) (left : List (List Word)) → TakesSteps siblings named before lines steps left →
+    (more : List Step) (rest : List (List Word)) → TakesSteps siblings named steps left more rest → TakesSteps siblings named before lines more rest
+taken_then siblings named before lines steps left taken more rest taken_none = taken
+taken_then siblings named before lines steps left taken _ rest (taken_more {steps = some} {left = between} step later is_named few fits line) =
+    taken_more step (taken_then siblings named before lines steps left taken some between later) is_named few fits line
+
+-- no step is lost
+pub kept_all : (siblings : ℕ) (named : Bool) (before : List Step) (lines : List (List Word)) (steps : List Step) (rest : List (List Word)) → TakesSteps siblings named before lines steps rest → length before ≤ length steps
+kept_all siblings named before lines steps rest taken_none = omega arith
+kept_all siblings named before lines _ rest (taken_more {steps = some} {left} step taken is_named few fits line) =
+    let fewer = kept_all siblings named before lines some left taken in
+    omega (arith, fewer, length_push some step)

@@ -9,7 +9,7 @@ ghost use Rattle.scenario_text.specs.Reading.{texts, Takes, TakesSteps, line_at}
 use crate::fault::{BadKind, ReadFault};
 use crate::pieces::cut;
 use crate::plan::MOST_STEPS;
-use crate::usual::usual_step;
+use crate::usual::{usual_step, wide_step};
 use crate::words::{Slots, words_of};
 use cs_types::{Actor, Event, Step};
 use std::marker::Model;
@@ -62,11 +62,10 @@ impl<'a> Lines<'a> {
         words_of(line, slots)
     }
 
-    /// Takes the next lines into the steps, if each user is named, as long as each is one of the usual step lines and
-    /// the steps are not too many. No line's end is searched for. It is a function of its own so that what its loop goes over stays in
-    /// registers.
+    /// Takes the next lines as `take_usual_steps` does, up to a step of a sibling whose number has two digits. It is a
+    /// function of its own so that what its loop goes over stays in registers.
     #[inline(never)]
-    pub fn take_usual_steps(
+    fn take_narrow_steps(
         &mut self,
         siblings: u8,
         named: bool,
@@ -87,6 +86,32 @@ impl<'a> Lines<'a> {
         }
         self.rest = rest;
         Ok(())
+    }
+
+    /// Takes the next lines into the steps, if each user is named, as long as each is one of the usual step lines and
+    /// the steps are not too many. No line's end is searched for.
+    pub fn take_usual_steps(
+        &mut self,
+        siblings: u8,
+        named: bool,
+        steps: &mut Vec<Step>,
+    ) -> Result<(), ReadFault>
+        requires { IsWithin 1 16 siblings }
+        ensures { MatchResult result
+            (λ _. TakesSteps siblings named steps.old.items self.old steps.new.items self.new)
+            (λ fault. fault ≡ ReadFault.OutOfMemory) }
+    {
+        loop {
+            self.take_narrow_steps(siblings, named, steps)?;
+            if !named || steps.len() >= MOST_STEPS {
+                return Ok(());
+            }
+            let Some((actor, event, behind)) = wide_step(self.rest, siblings) else {
+                return Ok(());
+            };
+            push_step(steps, actor, event)?;
+            self.rest = behind;
+        }
     }
 
     /// Whether no byte is left.

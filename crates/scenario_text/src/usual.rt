@@ -267,27 +267,28 @@ fn caller_event(text: &[u8], siblings: u8) -> Option<(Event, &[u8])>
     }
 }
 
-/// The actor that the text begins with, one of this number of siblings or a caller, and what stands after the space
-/// that follows it.
+/// The actor that the text begins with, a caller or one of this number of siblings whose own number is one digit, and
+/// what stands after the space that follows it.
 #[inline(always)]
 fn first_actor(text: &[u8], siblings: u8) -> Option<(Actor, &[u8])>
     requires { IsWithin 1 16 siblings }
     ensures { IfSome result (λ read. BeginsActor siblings text.now read.0 read.1.now) }
 {
-    match *text {
-        [b's', ref number @ ..] => {
-            let (cpu, rest) = small_before(number, b' ', siblings - 1)?;
-            Some((Actor::Sibling(cpu), rest))
-        }
-        [b'c', ref number @ ..] => {
-            let (caller, rest) = digit_before(number, b' ', MOST_CALLER)?;
-            Some((Actor::Caller(caller), rest))
-        }
-        _ => None,
+    let [letter, digit, b' ', ref rest @ ..] = *text else {
+        return None;
+    };
+    let number = digit.wrapping_sub(b'0');
+    if letter == b's' && number < siblings.min(10) {
+        Some((Actor::Sibling(number), rest))
+    } else if letter == b'c' && number <= MOST_CALLER {
+        Some((Actor::Caller(number), rest))
+    } else {
+        None
     }
 }
 
-/// Who makes the step of the first line, if it is one of these, and what they do, and what stands after the line.
+/// Who makes the step of the first line, if it is one of these, and what they do, and what stands after the line. A
+/// sibling whose number has two digits is left to `wide_step`.
 #[inline(always)]
 pub(crate) fn usual_step(text: &[u8], siblings: u8) -> Option<(Actor, Event, &[u8])>
     requires { IsWithin 1 16 siblings }
@@ -305,4 +306,19 @@ pub(crate) fn usual_step(text: &[u8], siblings: u8) -> Option<(Actor, Event, &[u
         Actor::End => return None,
     };
     Some((actor, event, rest))
+}
+
+/// The same for a step of a sibling whose number has two digits. It is apart, so that a test for it costs no other step.
+pub(crate) fn wide_step(text: &[u8], siblings: u8) -> Option<(Actor, Event, &[u8])>
+    requires { IsWithin 1 16 siblings }
+    ensures { IfSome result
+        (λ read. BeginsStep siblings text.now
+        (record { actor = read.0; event = read.1 }) read.2.now) }
+{
+    let [b's', ref number @ ..] = *behind(text, b"step ")? else {
+        return None;
+    };
+    let (cpu, text) = small_before(number, b' ', siblings - 1)?;
+    let (event, rest) = sibling_event(text, cpu)?;
+    Some((Actor::Sibling(cpu), event, rest))
 }
