@@ -3,7 +3,7 @@
 
 ghost use Rattle.std.specs.Prelude.{◌<◌};
 
-use command_words::{Command, command_of, drill_seed, is_replay, is_upgrade};
+use command_words::{Command, check_json, command_of, drill_seed, is_replay, is_upgrade};
 use core_state::CoreState;
 use cs_outside::{NoGate, PairGuard};
 use memory_outside::{MemSink, MemSource};
@@ -164,7 +164,7 @@ fn sink_that_fails_at_each_call(rt: HostRuntime) {
 
 /// Lists of words that are no command's: other words, words too many and too few, an option, and seeds that are no
 /// numbers or too large.
-const OTHER_WORDS: [&'static [&'static str]; 17] = [
+const OTHER_WORDS: [&'static [&'static str]; 21] = [
     &[],
     &[""],
     &["run"],
@@ -177,6 +177,10 @@ const OTHER_WORDS: [&'static [&'static str]; 17] = [
     &["--help"],
     &["-"],
     &["--", "replay"],
+    &["json"],
+    &["check", "text"],
+    &["check", "json", "json"],
+    &["check", "--json"],
     &["drill"],
     &["drill", "007"],
     &["drill", "+7"],
@@ -204,6 +208,11 @@ fn expect_command<R: AllocGlobal + Abort>(rt: &R, texts: &[&str], wanted: Option
         _ => None,
     };
     assert!(rt; drill_seed(alloc, &words) == seed);
+    let json = match wanted {
+        Some(Command::Check { json }) => Some(json),
+        _ => None,
+    };
+    assert!(rt; check_json(alloc, &words) == json);
 }
 
 // They are none of `run`, `replay` or `drill`, and nothing is read for them.
@@ -218,10 +227,12 @@ fn other_words(rt: HostRuntime) {
 }
 
 /// Words, each with the command that they ask for.
-const COMMANDS: [(&'static [&'static str], Command); 6] = [
+const COMMANDS: [(&'static [&'static str], Command); 8] = [
     (&["replay"], Command::Replay),
     (&["race"], Command::Race),
     (&["upgrade"], Command::Upgrade),
+    (&["check"], Command::Check { json: false }),
+    (&["check", "json"], Command::Check { json: true }),
     (&["drill", "0"], Command::Drill { seed: 0 }),
     (&["drill", "7"], Command::Drill { seed: 7 }),
     (

@@ -1,9 +1,9 @@
 -- Found: the command that is found in words is the one that they ask for, and no other.
-use Rattle.std.proofs.Common.{◌≡◌, ◌↔◌, ◌∙◌, sym, ℕ, true, false, List, Option, Some, None}
+use Rattle.std.proofs.Common.{◌≡◌, ◌↔◌, ◌∙◌, sym, ℕ, Bool, true, false, List, Option, Some, None}
 use Rattle.std.specs.Prelude.{◌≢◌, String}
 use Rattle.std.specs.declared.alloc.Global.{Global}
 use Rattle.command_words.specs.declared.command.Command.{Command}
-use Rattle.command_words.specs.declared.command.Command.TheVariants.{Replay, Race, Upgrade, Drill}
+use Rattle.command_words.specs.declared.command.Command.TheVariants.{Replay, Race, Upgrade, Check, Drill}
 use Rattle.command_words.specs.Asks.{Asks}
 
 -- what is found in words: the command that they ask for, or nothing
@@ -25,6 +25,9 @@ no_truth e = cc
 
 pub no_seed : (seed : ℕ) → ¬ (None ≡ Some seed)
 no_seed seed e = cc
+
+pub no_json : (json : Bool) → ¬ (None ≡ Some json)
+no_json json e = cc
 
 pub race_is_no_replay : Race ≢ Replay
 race_is_no_replay e = cc
@@ -52,3 +55,24 @@ race_is_no_upgrade e = cc
 
 pub drill_is_no_upgrade : (seed : ℕ) → Drill seed ≢ Upgrade
 drill_is_no_upgrade seed e = cc
+
+pub check_is_no_replay : (json : Bool) → Check json ≢ Replay
+check_is_no_replay json e = cc
+
+pub check_is_no_upgrade : (json : Bool) → Check json ≢ Upgrade
+check_is_no_upgrade json e = cc
+
+pub check_is_no_drill : (json : Bool) (seed : ℕ) → Check json ≢ Drill seed
+check_is_no_drill json seed e = cc
+
+pub replay_is_no_check : (json : Bool) → Replay ≢ Check json
+replay_is_no_check json e = cc
+
+pub race_is_no_check : (json : Bool) → Race ≢ Check json
+race_is_no_check json e = cc
+
+pub upgrade_is_no_check : (json : Bool) → Upgrade ≢ Check json
+upgrade_is_no_check json e = cc
+
+pub drill_is_no_check : (seed : ℕ) (json : Bool) → Drill seed ≢ Check json
+drill_is_no_check seed json e = cc

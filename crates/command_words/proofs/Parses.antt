@@ -9,9 +9,9 @@ use Rattle.std.proofs.lemmas.Bool.{or_parts}
 use Rattle.std.proofs.lemmas.Slice.Eq.{bytes_eq-Decides}
 use Rattle.std.proofs.lemmas.List.{append-nil, append_assoc}
 use Rattle.clap.specs.Walk.{Held, Names, Row, Text, Walk, after_step, answers_to, finished, first_of, idle, nothing_held, settled, subcommand_met, subcommand_or_other, walk, walked}
-use Rattle.clap.specs.Kinds.{HasKind, Kinds, or_else}
+use Rattle.clap.specs.Kinds.{HasKind, Kinds, check_kinds, or_else}
 use Rattle.clap.specs.Faults.{built_fault, check_fault, defaults_fault, entered_fault, fault_of, has_free_rules, is_free_app, is_simple_and_free, level_fault, other_fault, settle_fault, step_fault, stray_fault, turn_fault, walk_fault}
-use Rattle.clap.specs.Simple.{App, HasMatchesOf, Shape, built, built_leaf, entered, inherited, is_buildable, is_ready, is_ready_leaf, is_simple_leaf, label_of, names_of, new_shape, rows_at, subcommand_of, subcommand_rows_of}
+use Rattle.clap.specs.Simple.{App, HasMatchesOf, Shape, built, built_leaf, entered, inherited, is_buildable, is_ready, is_ready_leaf, is_simple_leaf, label_of, names_of, new_rule, new_shape, rows_at, subcommand_of, subcommand_rows_of}
 use Rattle.clap.specs.Values.{kind_of}
 use Rattle.clap.specs.declared.parser.matches.ArgMatches.{ArgMatches}
 use Rattle.clap.specs.declared.error.Error.{Error}
@@ -20,6 +20,8 @@ use Rattle.clap.proofs.SimpleLemmas.{label_first}
 use Rattle.clap.proofs.WalkLemmas.{both}
 use Rattle.clap.proofs.OnLiterals.{clap_on_literals}
 use Rattle.command_words.specs.declared.forms.CommandForm.{CommandForm}
+use Rattle.command_words.specs.declared.forms.Value.{Value}
+use Rattle.command_words.specs.declared.forms.Value.TheVariants.{Absent, Required, Optional}
 use Rattle.command_words.specs.Forms.{fits, form_named, is_command, is_option, words_by}
 use Rattle.command_words.specs.Program.{command_of, program, strict, words_met}
 use Rattle.command_words.proofs.Plain.{ready, turn_of_plain, walk_of_plain}
@@ -31,18 +33,18 @@ abbrev top : Bool → Text → Shape
 top is_leaf name = record (strict (new_shape name)) { is_leaf = is_leaf; is_built = true }
 
 -- a command, with what it takes from the program above it
-abbrev leaf : Text → Bool → Shape
-leaf name takes_value = built_leaf (inherited (top true []) (command_of name takes_value))
+abbrev leaf : Text → Value → Shape
+leaf name value = built_leaf (inherited (top true []) (command_of name value))
 
 abbrev leaf_of : CommandForm → Shape
-leaf_of form = leaf form.name.now form.takes_value
+leaf_of form = leaf form.name.now form.value
 
 -- the program with its commands
 abbrev whole : Bool → Text → List CommandForm → App
 whole is_leaf name forms = record { top = top is_leaf name; subs = map leaf_of forms }
 
 leaves : (name : Text) (forms : List CommandForm) →
-    map built_leaf (map (inherited (top true name)) (map (λ (form : CommandForm). command_of form.name.now form.takes_value) forms)) ≡ map leaf_of forms
+    map built_leaf (map (inherited (top true name)) (map (λ (form : CommandForm). command_of form.name.now form.value) forms)) ≡ map leaf_of forms
 leaves name [] = refl
 leaves name (form ∷ forms) = ap (λ subs. leaf_of form ∷ subs) (leaves name forms)
 
@@ -202,47 +204,85 @@ module _ (is_leaf : Bool) (name : Text) (forms : List CommandForm) where
 abbrev holding : Text → Held
 holding value = record { rows = []; pending = Some (codes "value", value ∷ []); skip = 0 }
 
-first_walked : (name value : Text) → is_option value ≡ false → walked (leaf name true).rules [] start value ≡ ready (holding value) 2
+-- no word is taken after a command that has no value
+word_refused : (name word : Text) (more : List Text) → list_any is_option (word ∷ more) ≡ false →
+    none (or_else (level_fault (leaf name Absent) [] nothing_held (word ∷ more) false []) []) ≡ false
 unfolding clap_on_literals
-first_walked name value plain = walk_of_plain (leaf name true).rules [] 1 nothing_held value plain refl ∙ refl
+word_refused name word more plain =
+    by_first (level_fault (leaf name Absent) [] nothing_held (word ∷ more) false []) _
+    (by_first (walk_fault (leaf name Absent) [] start (word ∷ more)) _
+    (by_first (turn_fault (leaf name Absent) [] start word) _ (ap none (turn_of_plain (leaf name Absent) [] 1 nothing_held word (or_parts _ _ plain).0 refl))))
+
+-- a command whose value is required, or is not
+module _ (required : Bool) (name : Text) where
+  abbrev valued : Shape
+  valued = built_leaf (inherited (top true []) (record (new_shape name) { rules = record (new_rule (codes "value")) { required = required } ∷ [] }))
+
+  first_walked : (value : Text) → is_option value ≡ false → walked valued.rules [] start value ≡ ready (holding value) 2
+  unfolding clap_on_literals
+  first_walked value plain = walk_of_plain valued.rules [] 1 nothing_held value plain refl ∙ refl
+
+  -- one word is taken after it
+  word_taken : (value : Text) → list_any is_option (value ∷ []) ≡ false → none (or_else (level_fault valued [] nothing_held (value ∷ []) false []) []) ≡ true
+  unfolding clap_on_literals
+  word_taken value plain =
+      (λ i. none (or_else (level_by (turn_of_plain valued [] 1 nothing_held value (or_parts _ _ plain).0 refl i) (first_walked value (or_parts _ _ plain).0 i)) []))
+      ∙ given required
+    where
+      level_by : Kinds → Walk → Kinds
+      level_by turn at =
+          or_else (or_else turn [])
+          (or_else [] (or_else (settle_fault valued.rules valued.args_override_self at.held)
+          (or_else (defaults_fault (settled valued.rules at.held).rows valued.rules)
+          (check_fault valued (finished valued.rules at.held) false))))
+
+      -- a value that is there may be required or not
+      given : (required : Bool) → none (or_else (check_kinds false false ((required && false) || false)) []) ≡ true
+      given true = refl
+      given false = refl
+
+  -- and no second one
+  second_refused : (value next : Text) (more : List Text) → list_any is_option (value ∷ next ∷ more) ≡ false →
+      none (or_else (level_fault valued [] nothing_held (value ∷ next ∷ more) false []) []) ≡ false
+  unfolding clap_on_literals
+  second_refused value next more plain =
+      let two = or_parts _ _ plain in
+      by_first (level_fault valued [] nothing_held (value ∷ next ∷ more) false []) _
+      (by_first (walk_fault valued [] start (value ∷ next ∷ more)) _
+      (by_second (turn_fault valued [] start value) _
+      (ap (λ (at : Walk). none (walk_fault valued [] at (next ∷ more))) (first_walked value two.0)
+      ∙ by_first (turn_fault valued [] (ready (holding value) 2) next) _ (ap none (turn_of_plain valued [] 2 (holding value) next (or_parts _ _ two.1).0 refl)))))
+
+  -- the value that is met is the word
+  value_met : (value : Text) → list_any is_option (value ∷ []) ≡ false → words_met (rows_at valued (value ∷ [])) ≡ name ∷ value ∷ []
+  unfolding clap_on_literals
+  value_met value plain = ap (λ (at : Walk). words_by name (first_of (codes "value") (finished valued.rules at.held))) (first_walked value (or_parts _ _ plain).0)
 
 -- nothing is wrong with what fits the command, and something with all else
-leaf_fault : (name : Text) (takes_value : Bool) (words : List Text) → list_any is_option words ≡ false →
-    none (or_else (level_fault (leaf name takes_value) [] nothing_held words false []) []) ≡ fits takes_value words
+leaf_fault : (name : Text) (value : Value) (words : List Text) → list_any is_option words ≡ false →
+    none (or_else (level_fault (leaf name value) [] nothing_held words false []) []) ≡ fits value words
 unfolding clap_on_literals
-leaf_fault name false [] plain = refl
-leaf_fault name true [] plain = refl
-leaf_fault name false (word ∷ more) plain =
-    by_first (level_fault (leaf name false) [] nothing_held (word ∷ more) false []) _
-    (by_first (walk_fault (leaf name false) [] start (word ∷ more)) _
-    (by_first (turn_fault (leaf name false) [] start word) _ (ap none (turn_of_plain (leaf name false) [] 1 nothing_held word (or_parts _ _ plain).0 refl))))
-leaf_fault name true (value ∷ []) plain =
-    (λ i. none (or_else (level_by (turn_of_plain (leaf name true) [] 1 nothing_held value (or_parts _ _ plain).0 refl i) (first_walked name value (or_parts _ _ plain).0 i)) []))
-  where
-    level_by : Kinds → Walk → Kinds
-    level_by turn at =
-        or_else (or_else turn [])
-        (or_else [] (or_else (settle_fault (leaf name true).rules (leaf name true).args_override_self at.held)
-        (or_else (defaults_fault (settled (leaf name true).rules at.held).rows (leaf name true).rules)
-        (check_fault (leaf name true) (finished (leaf name true).rules at.held) false))))
-leaf_fault name true (value ∷ next ∷ more) plain =
-    let two = or_parts _ _ plain in
-    by_first (level_fault (leaf name true) [] nothing_held (value ∷ next ∷ more) false []) _
-    (by_first (walk_fault (leaf name true) [] start (value ∷ next ∷ more)) _
-    (by_second (turn_fault (leaf name true) [] start value) _
-    (ap (λ (at : Walk). none (walk_fault (leaf name true) [] at (next ∷ more))) (first_walked name value two.0)
-    ∙ by_first (turn_fault (leaf name true) [] (ready (holding value) 2) next) _ (ap none (turn_of_plain (leaf name true) [] 2 (holding value) next (or_parts _ _ two.1).0 refl)))))
+leaf_fault name Absent [] plain = refl
+leaf_fault name Required [] plain = refl
+leaf_fault name Optional [] plain = refl
+leaf_fault name Absent (word ∷ more) plain = word_refused name word more plain
+leaf_fault name Required (word ∷ []) plain = word_taken true name word plain
+leaf_fault name Optional (word ∷ []) plain = word_taken false name word plain
+leaf_fault name Required (word ∷ next ∷ more) plain = second_refused true name word next more plain
+leaf_fault name Optional (word ∷ next ∷ more) plain = second_refused false name word next more plain
 
 -- what it is given are its words
-leaf_words : (name : Text) (takes_value : Bool) (words : List Text) → list_any is_option words ≡ false → fits takes_value words ≡ true →
-    words_met (rows_at (leaf name takes_value) words) ≡ name ∷ words
+leaf_words : (name : Text) (value : Value) (words : List Text) → list_any is_option words ≡ false → fits value words ≡ true →
+    words_met (rows_at (leaf name value) words) ≡ name ∷ words
 unfolding clap_on_literals
-leaf_words name false [] plain fit = refl
-leaf_words name true [] plain fit = absurd cc
-leaf_words name false (word ∷ more) plain fit = absurd cc
-leaf_words name true (value ∷ []) plain fit =
-    ap (λ (at : Walk). words_by name (first_of (codes "value") (finished (leaf name true).rules at.held))) (first_walked name value (or_parts _ _ plain).0)
-leaf_words name true (value ∷ next ∷ more) plain fit = absurd cc
+leaf_words name Absent [] plain fit = refl
+leaf_words name Required [] plain fit = absurd cc
+leaf_words name Optional [] plain fit = refl
+leaf_words name Absent (word ∷ more) plain fit = absurd cc
+leaf_words name Required (word ∷ []) plain fit = value_met true name word plain
+leaf_words name Optional (word ∷ []) plain fit = value_met false name word plain
+leaf_words name Required (word ∷ next ∷ more) plain fit = absurd cc
+leaf_words name Optional (word ∷ next ∷ more) plain fit = absurd cc
 
 -- ---- what is taken, and what it is
 
@@ -252,20 +292,20 @@ module _ (is_leaf : Bool) (name : Text) (forms : List CommandForm) where
   takes [] plain = no_word is_leaf name forms
   takes (word ∷ rest) plain = by_form (form_named word forms) refl where
     by_form : (found : Option CommandForm) → form_named word forms ≡ found →
-        none (fault_of (program is_leaf name forms) (word ∷ rest)) ≡ option_map_or (λ form. fits form.takes_value rest) found false
+        none (fault_of (program is_leaf name forms) (word ∷ rest)) ≡ option_map_or (λ form. fits form.value rest) found false
     by_form None is = no_name is_leaf name forms word rest (or_parts _ _ plain).0 is
-    by_form (Some form) is = ap none (faults_of_rest is_leaf name forms word rest form is) ∙ leaf_fault form.name.now form.takes_value rest (or_parts _ _ plain).1
+    by_form (Some form) is = ap none (faults_of_rest is_leaf name forms word rest form is) ∙ leaf_fault form.name.now form.value rest (or_parts _ _ plain).1
 
   -- The words of what it meets are the words that it was given.
   met_words : (words : List Text) → list_any is_option words ≡ false → is_command forms words ≡ true → option_map words_met (subcommand_of (program is_leaf name forms) words) ≡ Some words
   met_words [] plain is = absurd cc
   met_words (word ∷ rest) plain taken = by_form (form_named word forms) refl taken where
-    by_form : (found : Option CommandForm) → form_named word forms ≡ found → option_map_or (λ form. fits form.takes_value rest) found false ≡ true →
+    by_form : (found : Option CommandForm) → form_named word forms ≡ found → option_map_or (λ form. fits form.value rest) found false ≡ true →
         option_map words_met (subcommand_of (program is_leaf name forms) (word ∷ rest)) ≡ Some (word ∷ rest)
     by_form None is fit = absurd cc
     by_form (Some form) is fit =
         ap (option_map words_met) (met_of_rest is_leaf name forms word rest form is)
-        ∙ ap Some (leaf_words form.name.now form.takes_value rest (or_parts _ _ plain).1 fit ∙ ap (λ (name : Text). name ∷ rest) (name_is word forms form is))
+        ∙ ap Some (leaf_words form.name.now form.value rest (or_parts _ _ plain).1 fit ∙ ap (λ (name : Text). name ∷ rest) (name_is word forms form is))
 
   -- ---- the answers of a parse
 
@@ -275,24 +315,27 @@ module _ (is_leaf : Bool) (name : Text) (forms : List CommandForm) where
       ap (λ (app : App). (is_buildable (program is_leaf name forms) && (is_ready app.top && list_all is_ready_leaf app.subs)) && is_free_app app) (built_is is_leaf name forms)
       ∙ (λ i. ((each is_simple_leaf command_of simple i) && (each is_ready_leaf leaf ready_leaf i)) && (each has_free_rules leaf free i))
     where
-      each : (p : Shape → Bool) (of : Text → Bool → Shape) → ((name : Text) (takes_value : Bool) → p (of name takes_value) ≡ true) →
-          list_all p (map (λ (form : CommandForm). of form.name.now form.takes_value) forms) ≡ true
+      each : (p : Shape → Bool) (of : Text → Value → Shape) → ((name : Text) (value : Value) → p (of name value) ≡ true) →
+          list_all p (map (λ (form : CommandForm). of form.name.now form.value) forms) ≡ true
       each p of holds = go forms where
-        go : (forms : List CommandForm) → list_all p (map (λ (form : CommandForm). of form.name.now form.takes_value) forms) ≡ true
+        go : (forms : List CommandForm) → list_all p (map (λ (form : CommandForm). of form.name.now form.value) forms) ≡ true
         go [] = refl
-        go (form ∷ forms) = (λ i. holds form.name.now form.takes_value i && go forms i)
+        go (form ∷ forms) = (λ i. holds form.name.now form.value i && go forms i)
 
-      simple : (name : Text) (takes_value : Bool) → is_simple_leaf (command_of name takes_value) ≡ true
-      simple name true = refl
-      simple name false = refl
+      simple : (name : Text) (value : Value) → is_simple_leaf (command_of name value) ≡ true
+      simple name Absent = refl
+      simple name Required = refl
+      simple name Optional = refl
 
-      ready_leaf : (name : Text) (takes_value : Bool) → is_ready_leaf (leaf name takes_value) ≡ true
-      ready_leaf name true = refl
-      ready_leaf name false = refl
+      ready_leaf : (name : Text) (value : Value) → is_ready_leaf (leaf name value) ≡ true
+      ready_leaf name Absent = refl
+      ready_leaf name Required = refl
+      ready_leaf name Optional = refl
 
-      free : (name : Text) (takes_value : Bool) → has_free_rules (leaf name takes_value) ≡ true
-      free name true = refl
-      free name false = refl
+      free : (name : Text) (value : Value) → has_free_rules (leaf name value) ≡ true
+      free name Absent = refl
+      free name Required = refl
+      free name Optional = refl
 
   module _ (app : App) (words : List Text) (is : app ≡ program is_leaf name forms) (plain : list_any is_option words ≡ false) where
     free_app : is_simple_and_free app ≡ true

@@ -6,17 +6,21 @@ use Rattle.std.specs.Borrow.{Bor}
 use Rattle.std.specs.Str.{bytes_eq}
 use Rattle.clap.specs.Walk.{Text}
 use Rattle.command_words.specs.declared.forms.CommandForm.{CommandForm}
+use Rattle.command_words.specs.declared.forms.Value.{Value}
+use Rattle.command_words.specs.declared.forms.Value.TheVariants.{Absent, Required, Optional}
 
 -- whether a word begins with `-` (45), so that a parser would look for an option
 abbrev pub is_option : Text → Bool
 is_option [] = false
 is_option (byte ∷ rest) = byte == 45
 
--- whether these words may follow the name: one if the command takes a value, else none
-abbrev pub fits : Bool → List Text → Bool
-fits false [] = true
-fits true (value ∷ []) = true
-fits takes_value words = false
+-- whether these words may follow the name
+abbrev pub fits : Value → List Text → Bool
+fits Absent [] = true
+fits Required (word ∷ []) = true
+fits Optional [] = true
+fits Optional (word ∷ []) = true
+fits value words = false
 
 -- the first form of this name
 abbrev pub form_named : Text → List CommandForm → Option CommandForm
@@ -25,7 +29,7 @@ form_named name forms = find (λ form. bytes_eq form.name.now name) forms
 -- whether the words are a command's: the name of one, and what may follow it
 abbrev pub is_command : List CommandForm → List Text → Bool
 is_command forms [] = false
-is_command forms (name ∷ words) = option_map_or (λ form. fits form.takes_value words) (form_named name forms) false
+is_command forms (name ∷ words) = option_map_or (λ form. fits form.value words) (form_named name forms) false
 
 -- whether they are, and none of them begins with `-`
 abbrev pub is_plain_command : List CommandForm → List Text → Bool

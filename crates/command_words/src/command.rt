@@ -1,11 +1,11 @@
 //! The commands, each by its words.
 
-ghost use Rattle.std.specs.Prelude.{◌≡◌, ◌↔◌, ℕ, IsTrue, Some, option_map};
-ghost use Rattle.command_words.specs.declared.command.Command.TheVariants.{Replay, Upgrade, Drill};
+ghost use Rattle.std.specs.Prelude.{◌≡◌, ◌↔◌, ℕ, Bool, IsTrue, Some, option_map};
+ghost use Rattle.command_words.specs.declared.command.Command.TheVariants.{Replay, Upgrade, Check, Drill};
 ghost use Rattle.command_words.specs.Asks.{Asks, HasSeed, words_of};
 ghost use Rattle.command_words.specs.Forms.{words_by};
 
-use crate::forms::{CommandForm, read_words};
+use crate::forms::{CommandForm, Value, read_words};
 use crate::seed::canonical;
 use std::alloc::Global;
 
@@ -18,40 +18,49 @@ pub enum Command {
     Race,
     /// `upgrade`: a scenario of either version is written in version 2.
     Upgrade,
+    /// `check` or `check json`: it is said, as text or in JSON, whether a printed run that follows a scenario is one of
+    /// it.
+    Check { json: bool },
     /// `drill` and a seed: the scenario that is generated from the seed is played.
     Drill { seed: u32 },
 }
 
 /// The forms of the commands.
-const FORMS: [CommandForm<'static>; 4] = [
+const FORMS: [CommandForm<'static>; 5] = [
     CommandForm {
         name: "replay",
-        takes_value: false,
+        value: Value::Absent,
     },
     CommandForm {
         name: "race",
-        takes_value: false,
+        value: Value::Absent,
     },
     CommandForm {
         name: "upgrade",
-        takes_value: false,
+        value: Value::Absent,
+    },
+    CommandForm {
+        name: "check",
+        value: Value::Optional,
     },
     CommandForm {
         name: "drill",
-        takes_value: true,
+        value: Value::Required,
     },
 ];
 
-/// The command of this name and seed, if there is one.
-fn named(name: &str, seed: Option<&str>) -> Option<Command>
+/// The command of this name and value, if there is one.
+fn named(name: &str, value: Option<&str>) -> Option<Command>
     ensures { (command : Command) → (result ≡ Some command)
-        ↔ ((words_by name.now (option_map (λ text. text.now) seed.entry) ≡ words_of command)
+        ↔ ((words_by name.now (option_map (λ text. text.now) value.entry) ≡ words_of command)
         × HasSeed command) }
 {
-    match (name, seed) {
+    match (name, value) {
         ("replay", None) => Some(Command::Replay),
         ("race", None) => Some(Command::Race),
         ("upgrade", None) => Some(Command::Upgrade),
+        ("check", None) => Some(Command::Check { json: false }),
+        ("check", Some("json")) => Some(Command::Check { json: true }),
         ("drill", Some(seed)) => canonical(seed).map(|seed| Command::Drill { seed }),
         _ => None,
     }
@@ -64,8 +73,8 @@ fn named(name: &str, seed: Option<&str>) -> Option<Command>
 pub fn command_of(alloc: Global, words: &[String]) -> Option<Command>
     ensures asked { (command : Command) → (result ≡ Some command) ↔ Asks command words.now }
 {
-    let (name, seed) = read_words(alloc, "coresched", &FORMS, words)?;
-    named(name, seed)
+    let (name, value) = read_words(alloc, "coresched", &FORMS, words)?;
+    named(name, value)
 }
 
 /// Whether the words ask for a replay.
@@ -76,6 +85,7 @@ pub fn is_replay(alloc: Global, words: &[String]) -> bool
         Some(Command::Replay) => true,
         Some(Command::Race) => false,
         Some(Command::Upgrade) => false,
+        Some(Command::Check { .. }) => false,
         Some(Command::Drill { .. }) => false,
         None => false,
     }
@@ -89,8 +99,23 @@ pub fn is_upgrade(alloc: Global, words: &[String]) -> bool
         Some(Command::Upgrade) => true,
         Some(Command::Replay) => false,
         Some(Command::Race) => false,
+        Some(Command::Check { .. }) => false,
         Some(Command::Drill { .. }) => false,
         None => false,
+    }
+}
+
+/// Whether the check that the words ask for is told in JSON, or `None` if they ask for none.
+pub fn check_json(alloc: Global, words: &[String]) -> Option<bool>
+    ensures { (json : Bool) → (result ≡ Some json) ↔ Asks (Check json) words.now }
+{
+    match command_of(alloc, words) {
+        Some(Command::Check { json }) => Some(json),
+        Some(Command::Replay) => None,
+        Some(Command::Race) => None,
+        Some(Command::Upgrade) => None,
+        Some(Command::Drill { .. }) => None,
+        None => None,
     }
 }
 
@@ -103,6 +128,7 @@ pub fn drill_seed(alloc: Global, words: &[String]) -> Option<u32>
         Some(Command::Replay) => None,
         Some(Command::Race) => None,
         Some(Command::Upgrade) => None,
+        Some(Command::Check { .. }) => None,
         None => None,
     }
 }

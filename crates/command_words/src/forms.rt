@@ -9,13 +9,24 @@ ghost use Rattle.command_words.specs.Forms.{form_named, is_command, is_option, i
 use crate::parser::parsed;
 use std::alloc::Global;
 
+/// Whether a value, which is one word, follows the name of a command.
+#[derive(Clone, Copy)]
+pub enum Value {
+    /// No word may follow.
+    Absent,
+    /// Exactly one word has to follow.
+    Required,
+    /// At most one word may follow.
+    Optional,
+}
+
 /// The form of a command's words.
 #[derive(Clone, Copy)]
 pub struct CommandForm<'a> {
     /// The first word.
     pub name: &'a str,
-    /// Whether one word has to follow it. Else none may.
-    pub takes_value: bool,
+    /// Whether a value follows it.
+    pub value: Value,
 }
 
 /// Whether the word begins with `-`.
@@ -47,8 +58,11 @@ fn spelled<'a>(forms: &[CommandForm], words: &'a [String]) -> Option<(&'a str, O
     let (name, values) = words.split_first()?;
     let name = name.as_str();
     let form = form_of(forms, name)?;
-    let value = values.first().map(String::as_str);
-    (values.len() == usize::from(form.takes_value)).then_some((name, value))
+    match (form.value, values) {
+        (Value::Absent | Value::Optional, []) => Some((name, None)),
+        (Value::Required | Value::Optional, [value]) => Some((name, Some(value.as_str()))),
+        _ => None,
+    }
 }
 
 /// The name of the command that the words are, and its value, or `None` if they are no command's. No word of a command

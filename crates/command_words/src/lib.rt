@@ -7,5 +7,5 @@ mod forms;
 mod parser;
 mod seed;
 
-pub use command::{Command, command_of, drill_seed, is_replay, is_upgrade};
-pub use forms::{CommandForm, read_words};
+pub use command::{Command, check_json, command_of, drill_seed, is_replay, is_upgrade};
+pub use forms::{CommandForm, Value, read_words};

@@ -10,7 +10,7 @@ ghost use Rattle.clap.specs.Walk.{is_empty};
 ghost use Rattle.command_words.specs.Forms.{is_command, is_option, words_of};
 ghost use Rattle.command_words.specs.Program.{command_of, program as grammar_of, words_met};
 
-use crate::forms::CommandForm;
+use crate::forms::{CommandForm, Value};
 use clap::error::ErrorKind;
 use clap::{Arg, ArgMatches, Command};
 use std::alloc::{AllocError, Global};
@@ -18,14 +18,14 @@ use std::alloc::{AllocError, Global};
 /// A command of this form.
 fn command<'a>(alloc: Global, form: CommandForm<'a>) -> Result<Command<'a>, AllocError>
     ensures { IfOk result (λ command. (app_of command
-        ≡ record { top = command_of form.entry.name.now form.entry.takes_value; subs = [] })
+        ≡ record { top = command_of form.entry.name.now form.entry.value; subs = [] })
         × ((fields_of command).has_globals ≡ false)) }
 {
     let command = Command::new(alloc, form.name);
-    if form.takes_value {
-        command.arg(Arg::new(alloc, "value").required(true))
-    } else {
-        Ok(command)
+    match form.value {
+        Value::Absent => Ok(command),
+        Value::Required => command.arg(Arg::new(alloc, "value").required(true)),
+        Value::Optional => command.arg(Arg::new(alloc, "value")),
     }
 }
 

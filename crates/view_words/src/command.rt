@@ -4,7 +4,7 @@ ghost use Rattle.std.specs.Prelude.{◌≡◌, ◌↔◌, [], ◌∷◌, Some, o
 ghost use Rattle.command_words.specs.Forms.{words_by};
 ghost use Rattle.view_words.specs.Asks.{Asks, word_of};
 
-use command_words::{CommandForm, read_words};
+use command_words::{CommandForm, Value, read_words};
 use std::alloc::Global;
 
 /// What the program is asked to show of a run, or of a text.
@@ -28,27 +28,27 @@ pub enum Command {
 const FORMS: [CommandForm<'static>; 6] = [
     CommandForm {
         name: "summary",
-        takes_value: false,
+        value: Value::Absent,
     },
     CommandForm {
         name: "table",
-        takes_value: false,
+        value: Value::Absent,
     },
     CommandForm {
         name: "segments",
-        takes_value: false,
+        value: Value::Absent,
     },
     CommandForm {
         name: "segments-json",
-        takes_value: false,
+        value: Value::Absent,
     },
     CommandForm {
         name: "picture",
-        takes_value: false,
+        value: Value::Absent,
     },
     CommandForm {
         name: "explain",
-        takes_value: false,
+        value: Value::Absent,
     },
 ];
 

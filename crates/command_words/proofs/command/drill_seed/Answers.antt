@@ -1,6 +1,6 @@
 use Rattle.std.proofs.Common.{◌≡◌, ◌∙◌, ap, Some}
-use Rattle.command_words.specs.declared.command.Command.TheVariants.{Replay, Race, Upgrade, Drill}
-use Rattle.command_words.proofs.Found.{no_seed, none_asked, not_asked, only, race_is_no_drill, replay_is_no_drill, upgrade_is_no_drill}
+use Rattle.command_words.specs.declared.command.Command.TheVariants.{Replay, Race, Upgrade, Check, Drill}
+use Rattle.command_words.proofs.Found.{check_is_no_drill, no_seed, none_asked, not_asked, only, race_is_no_drill, replay_is_no_drill, upgrade_is_no_drill}
 use Rattle.command_words.proofs.command.drill_seed.Goals as goal
 
 pub returns-in-Some-Drill : goal.returns-in-Some-Drill
@@ -30,6 +30,13 @@ returns-in-Some-Upgrade c =
     λ seed. (
       λ e. absurd (no_seed seed e),
       λ asks. absurd (not_asked c.command_of.result c.args.words.now Upgrade (Drill seed) c.command_of.ensures.asked (c.in-Some-Upgrade.is ∙ ap Some c.in-Some-Upgrade.field-0-is) (upgrade_is_no_drill seed) asks),
+    )
+
+pub returns-in-Some-Check : goal.returns-in-Some-Check
+returns-in-Some-Check c =
+    λ seed. (
+      λ e. absurd (no_seed seed e),
+      λ asks. absurd (not_asked c.command_of.result c.args.words.now (Check c.in-Some-Check.field-0-0) (Drill seed) c.command_of.ensures.asked (c.in-Some-Check.is ∙ ap Some c.in-Some-Check.field-0-is) (check_is_no_drill c.in-Some-Check.field-0-0 seed) asks),
     )
 
 pub returns-in-None : goal.returns-in-None

@@ -1,6 +1,6 @@
 use Rattle.std.proofs.Common.{refl, ◌∙◌, ap, Some}
-use Rattle.command_words.specs.declared.command.Command.TheVariants.{Replay, Race, Upgrade, Drill}
-use Rattle.command_words.proofs.Found.{drill_is_no_upgrade, no_truth, none_asked, not_asked, race_is_no_upgrade, replay_is_no_upgrade}
+use Rattle.command_words.specs.declared.command.Command.TheVariants.{Replay, Race, Upgrade, Check, Drill}
+use Rattle.command_words.proofs.Found.{check_is_no_upgrade, drill_is_no_upgrade, no_truth, none_asked, not_asked, race_is_no_upgrade, replay_is_no_upgrade}
 use Rattle.command_words.proofs.command.is_upgrade.Goals as goal
 
 pub returns-in-Some-Upgrade : goal.returns-in-Some-Upgrade
@@ -17,6 +17,12 @@ pub returns-in-Some-Replay : goal.returns-in-Some-Replay
 returns-in-Some-Replay c = (
   λ e. absurd (no_truth e),
   λ asks. absurd (not_asked c.command_of.result c.args.words.now Replay Upgrade c.command_of.ensures.asked (c.in-Some-Replay.is ∙ ap Some c.in-Some-Replay.field-0-is) replay_is_no_upgrade asks),
+)
+
+pub returns-in-Some-Check : goal.returns-in-Some-Check
+returns-in-Some-Check c = (
+  λ e. absurd (no_truth e),
+  λ asks. absurd (not_asked c.command_of.result c.args.words.now (Check c.in-Some-Check.field-0-0) Upgrade c.command_of.ensures.asked (c.in-Some-Check.is ∙ ap Some c.in-Some-Check.field-0-is) (check_is_no_upgrade c.in-Some-Check.field-0-0) asks),
 )
 
 pub returns-in-Some-Drill : goal.returns-in-Some-Drill

@@ -9,9 +9,9 @@ use Rattle.command_words.proofs.parser.grammar.Goals as goal
 
 -- one more command
 appended : (name : Text) (forms : List CommandForm) (form : CommandForm) →
-    with_subcommand (program (is_empty forms) name forms) (command_of form.name.now form.takes_value) ≡ program (is_empty (forms ++ form ∷ [])) name (forms ++ form ∷ [])
+    with_subcommand (program (is_empty forms) name forms) (command_of form.name.now form.value) ≡ program (is_empty (forms ++ form ∷ [])) name (forms ++ form ∷ [])
 appended name forms form =
-    (λ i. record { top = record (strict (new_shape name)) { is_leaf = sym (not_empty forms form) i }; subs = sym (map_push (λ (form : CommandForm). command_of form.name.now form.takes_value) forms form) i })
+    (λ i. record { top = record (strict (new_shape name)) { is_leaf = sym (not_empty forms form) i }; subs = sym (map_push (λ (form : CommandForm). command_of form.name.now form.value) forms form) i })
 
 pub loop-form-preserved : goal.loop-form-preserved
 loop-form-preserved c =
