@@ -8,5 +8,6 @@ pub mod Known
 pub mod Refuted
 pub mod Runs
 pub mod Shares
+pub mod Splits
 pub mod Texts
 pub mod Wanted

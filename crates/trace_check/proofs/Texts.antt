@@ -1,6 +1,7 @@
 -- Texts: how a text is cut into its lines.
 use Rattle.std.proofs.Common.{◌≡◌, ◌≢◌, ℕ, ◌+◌, ◌<◌, ◌≤◌, suc, zero, true, false, eqb, List, [], ◌∷◌, ◌++◌, length, take, drop, get_or, Option, Some, None, refl, sym, ap, ◌∙◌, arith, append_assoc, inl, inr, zero-le, take_all, min, map}
 use Rattle.std.specs.Prelude.{not, slice_get}
+use Rattle.std.specs.List.{concat}
 use Rattle.std.specs.Option.{option_map}
 use Rattle.std.proofs.lemmas.Bool.{and_parts, and_from, not-true, not_from_false, cases_Bool, eqb-true, eq-eqb, false_from_ne_true}
 use Rattle.std.proofs.Math.Seq.{take-append-add}
@@ -60,27 +61,23 @@ lines-last byte (next ∷ word) h =
 
 -- ---- the lines are the text
 
-abbrev pub joined : List (List ℕ) → List ℕ
-joined [] = []
-joined (line ∷ lines) = line ++ joined lines
+concat-begun : (byte : ℕ) (lines : List (List ℕ)) → concat (begun_by byte lines) ≡ byte ∷ concat lines
+concat-begun byte [] = refl
+concat-begun byte (line ∷ lines) = refl
 
-joined-begun : (byte : ℕ) (lines : List (List ℕ)) → joined (begun_by byte lines) ≡ byte ∷ joined lines
-joined-begun byte [] = refl
-joined-begun byte (line ∷ lines) = refl
-
-pub joined-lines : (text : List ℕ) → joined (lines_of text) ≡ text
+pub concat-lines : (text : List ℕ) → concat (lines_of text) ≡ text
 unfolding lines_of
-joined-lines [] = refl
-joined-lines (byte ∷ text) = elim (cases_Bool (eqb byte 10)) [
+concat-lines [] = refl
+concat-lines (byte ∷ text) = elim (cases_Bool (eqb byte 10)) [
   | inl feed ↦
       let is : byte ≡ 10 = eqb-true byte 10 feed in
-      rw feed (ap (λ (rest : List ℕ). 10 ∷ rest) (joined-lines text) ∙ ap (λ (b : ℕ). b ∷ text) (sym is))
-  | inr other ↦ rw other (joined-begun byte (lines_of text) ∙ ap (λ (rest : List ℕ). byte ∷ rest) (joined-lines text))
+      rw feed (ap (λ (rest : List ℕ). 10 ∷ rest) (concat-lines text) ∙ ap (λ (b : ℕ). b ∷ text) (sym is))
+  | inr other ↦ rw other (concat-begun byte (lines_of text) ∙ ap (λ (rest : List ℕ). byte ∷ rest) (concat-lines text))
 ]
 
 -- texts with the same lines are one
 pub same_lines : (one other : List ℕ) → lines_of one ≡ lines_of other → one ≡ other
-same_lines one other same = sym (joined-lines one) ∙ ap joined same ∙ joined-lines other
+same_lines one other same = sym (concat-lines one) ∙ ap concat same ∙ concat-lines other
 
 -- there are as many lines as bytes at most
 length-begun : (byte : ℕ) (lines : List (List ℕ)) → length (begun_by byte lines) ≤ length lines + 1

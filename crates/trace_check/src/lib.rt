@@ -4,8 +4,12 @@
 mod ending;
 mod judging;
 mod lines;
+mod output;
+mod parts;
 mod scripts;
 mod verdict;
 
 pub use judging::judge;
+pub use output::verdict_output;
+pub use parts::{line_count, split_input};
 pub use verdict::Verdict;

@@ -1,0 +1,5 @@
+use Rattle.std.proofs.Common.{◌≡◌, take, string_bytes, encode_utf8_all}
+use Rattle.trace_check.proofs.output.text_of.Given as goal
+
+abbrev pub invariant-loop-byte : goal.invariant-loop-byte
+invariant-loop-byte l = string_bytes l.text ≡ encode_utf8_all (take l.byte-index l.bytes)
