@@ -90,7 +90,7 @@ def drilled(seed):
 
 def known(words):
     """Whether the program knows the words."""
-    if words in (['replay'], ['race'], ['upgrade']):
+    if words in (['replay'], ['race'], ['upgrade'], ['check'], ['check', 'json']):
         return True
     if len(words) != 2 or words[0] != 'drill':
         return False
@@ -103,8 +103,11 @@ LISTS = [[], [''], ['replay', ''], ['', 'replay'], ['--help'], ['-h'], ['help'],
          ['drill', '--', '1'], ['drill', '4294967296'], ['drill', '18446744073709551617'], ['drill', '1e3'], ['drill', '0x1'],
          ['drill', 'drill'], ['drill', 'help'], ['help', 'drill'], ['drill', '--help'], ['Replay'], ['repla'], ['replays'], ['r'], ['run'],
          ['replay\n'], ['drill', '1\n'], ['drill', '\u0661'], ['dr\u00edll', '1'], ['coresched'], ['coresched', 'replay'],
-         ['upgrade'], ['upgrade', ''], ['upgrade', '1'], ['upgrade', 'upgrade'], ['Upgrade'], ['upgrades'], ['replay', 'upgrade']]
-PARTS = ['replay', 'race', 'upgrade', 'drill', '', 'help', '--help', '-', '--', '-1', '0', '00', '1', '01', '+1', '4294967295', '4294967296', 'x', 'drill=1']
+         ['upgrade'], ['upgrade', ''], ['upgrade', '1'], ['upgrade', 'upgrade'], ['Upgrade'], ['upgrades'], ['replay', 'upgrade'],
+         ['check'], ['check', 'json'], ['check', ''], ['check', 'JSON'], ['check', 'jso'], ['check', 'jsons'], ['check', 'json '], ['check', '1'],
+         ['check', '--'], ['check', '--', 'json'], ['check', '--json'], ['check', '-'], ['check', 'help'], ['check', 'check'],
+         ['check', 'json', 'json'], ['json'], ['json', 'check'], ['replay', 'json'], ['race', 'json'], ['drill', 'json'], ['Check'], ['checks']]
+PARTS = ['replay', 'race', 'upgrade', 'check', 'json', 'drill', '', 'help', '--help', '-', '--', '-1', '0', '00', '1', '01', '+1', '4294967295', '4294967296', 'x', 'drill=1']
 
 
 def lists(count, rng):

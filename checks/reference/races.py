@@ -1,7 +1,8 @@
 #!/usr/bin/env python3
 """Judges races of the built program by the rules as reference.py has them. In what a race wrote each actor has to have
 made its own step lines, in their order. And it has to be what a replay writes of the same scenario with its step lines in
-the order of the race. So each reply, the entries of the end and the report are judged too.
+the order of the race. So each reply, the entries of the end and the report are judged too. And the program itself has
+to say yes when it checks the run.
 
 Usage: races.py --program PATH --count N --seed S [--runs R] [--beside B] [--under WORDS]
 
@@ -60,6 +61,14 @@ def judged(data, run):
     return (None if is_right else 'a replay in its order writes something else'), tuple(order)
 
 
+def checked(program, data, run):
+    """What is wrong with what the program's own `check` says of a run, or None. There is none of one that printed nothing."""
+    if run[0] != 0:
+        return None
+    said = runs.ran([*program, 'check'], data + run[1])
+    return None if said == (0, b'yes\n', b'') else '`check` does not say yes'
+
+
 def scenario(seed, k):
     """The scenario of this number. Each third one is wide."""
     rng = random.Random('%d/%d' % (seed, k))
@@ -85,7 +94,8 @@ def main():
             data = scenario(a.seed, k)
             widest = max(widest, len(scripts(steps_of(data))))
             ended = list(pool.map(lambda _: runs.ran([*program, 'race'], data), range(a.runs)))
-            told = [judged(data, run) for run in ended]
+            said = list(pool.map(lambda run: checked(program, data, run), ended))
+            told = [(fault or other, order) for (fault, order), other in zip((judged(data, run) for run in ended), said)]
             wrong += sum(fault is not None for fault, _ in told)
             for (fault, _), run in zip(told, ended):
                 if fault:

@@ -279,9 +279,9 @@ def words_of(line):
     return words
 
 
-def read(data):
-    """A Scenario, or raises TooLong or Bad."""
-    if len(data) > MAX_INPUT:
+def read(data, most=MAX_INPUT):
+    """A Scenario, or raises TooLong where it has more bytes than `most`, or Bad."""
+    if len(data) > most:
         raise TooLong()
     lines = data.split(b'\n')
     rest = lines.pop()

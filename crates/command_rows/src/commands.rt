@@ -8,34 +8,13 @@ use core_state::CoreState;
 use cs_outside::{NoGate, PairGuard};
 use memory_outside::{MemSink, MemSource};
 use plain_room::PlainRoom;
-use row_inputs::{INPUT, joined, sink_of, source_of, words_of};
+use row_inputs::{INPUT, OUTPUT_LINES, joined, sink_of, source_of, words_of};
 use row_runs::{replayed, run_over_trees};
 use scenario_runner::{Status, drill, replay};
 use scenario_text::BadKind;
 use std::process::Abort;
 use std::sync::Wait;
 use std::thread::Threads;
-
-/// The lines that `INPUT` makes: of the entries, and of the report.
-pub(crate) const LINES: [&str; 17] = [
-    "c0 wake 1: Woken 0\n",
-    "c0 wake 2: Woken 0\n",
-    "s0 turn: Plain 1 core 0 forced 0\n",
-    "c0 wake 3: Woken 0\n",
-    "s0 turn: Plain 3 core 0 forced 0\n",
-    "s0 block: Slept 3 Plain 1 core 0 forced 0\n",
-    "report\n",
-    "clock 0\n",
-    "numbers 7 0\n",
-    "core 0 forced 0 occupation 0\n",
-    "intervals 0\n",
-    "cpu 0 online runs 1 number 0\n",
-    "cpu 1 online runs idle number 0\n",
-    "task 1 cpu 0 queued cookie 0 forced 0 vtime 0\n",
-    "task 2 cpu 0 queued cookie 0 forced 0 vtime 0\n",
-    "task 3 cpu 0 asleep cookie 0 forced 0 vtime 0\n",
-    "done\n",
-];
 
 /// How many bytes the lines have.
 const OUTPUT_BYTES: u64 = 437;
@@ -116,7 +95,7 @@ fn expect_stored<R: Threads + Wait + AllocGlobal + Sync + Abort>(
 // Each line in one piece, and again with the rest if only a byte was taken.
 #[test]
 fn stored_scenario_is_played(rt: HostRuntime) {
-    let output = joined(rt.alloc(), &LINES).expect(&rt, "room");
+    let output = joined(rt.alloc(), &OUTPUT_LINES).expect(&rt, "room");
     let whole = expect_stored(
         &rt,
         &["replay"],
@@ -149,17 +128,17 @@ fn source_that_fails_at_each_call(rt: HostRuntime) {
     for call in 1..bytes + 2 {
         expect_faults(&rt, (call, 0), Status::ReadFault, &[]);
     }
-    expect_faults(&rt, (bytes + 2, 0), Status::Done, &LINES);
+    expect_faults(&rt, (bytes + 2, 0), Status::Done, &OUTPUT_LINES);
 }
 
 // A sink takes a line at a call.
 #[test]
 fn sink_that_fails_at_each_call(rt: HostRuntime) {
     for call in 1..18 {
-        let lines = &LINES[..call as usize - 1];
+        let lines = &OUTPUT_LINES[..call as usize - 1];
         expect_faults(&rt, (0, call), Status::WriteFault, lines);
     }
-    expect_faults(&rt, (0, 18), Status::Done, &LINES);
+    expect_faults(&rt, (0, 18), Status::Done, &OUTPUT_LINES);
 }
 
 /// Lists of words that are no command's: other words, words too many and too few, an option, and seeds that are no

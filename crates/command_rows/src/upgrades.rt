@@ -2,9 +2,9 @@
 
 ghost use Rattle.std.specs.Prelude.{◌<◌};
 
-use crate::commands::{LINES, expect_run};
+use crate::commands::expect_run;
 use memory_outside::{MemSink, MemSource};
-use row_inputs::{INPUT, joined, sink_of, source_of, words_of};
+use row_inputs::{INPUT, OUTPUT_LINES, joined, sink_of, source_of, words_of};
 use scenario_runner::{Status, upgrade};
 use scenario_text::BadKind;
 use std::process::Abort;
@@ -65,7 +65,7 @@ fn upgrades_both_versions(rt: HostRuntime) {
 #[test]
 fn upgraded_text_is_played(rt: HostRuntime) {
     let second = joined(rt.alloc(), &UPGRADED).expect(&rt, "room");
-    let output = joined(rt.alloc(), &LINES).expect(&rt, "room");
+    let output = joined(rt.alloc(), &OUTPUT_LINES).expect(&rt, "room");
     expect_run(
         &rt,
         &["replay"],
@@ -111,7 +111,7 @@ fn wide_core_makes_the_same_entries(rt: HostRuntime) {
     let mut text = joined(rt.alloc(), &["coresched 2\n", "siblings 16\n"]).expect(&rt, "room");
     let rest = joined(rt.alloc(), &UPGRADED[2..]).expect(&rt, "room");
     text.extend_from_slice(&rest).expect(&rt, "room");
-    let mut output = joined(rt.alloc(), &LINES[..6]).expect(&rt, "room");
+    let mut output = joined(rt.alloc(), &OUTPUT_LINES[..6]).expect(&rt, "room");
     let report = joined(rt.alloc(), &WIDE_REPORT).expect(&rt, "room");
     output.extend_from_slice(&report).expect(&rt, "room");
     expect_run(

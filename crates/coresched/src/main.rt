@@ -6,6 +6,7 @@ ghost use Rattle.std.specs.Prelude.{◌≡◌};
 
 use core_events::CoreRoom;
 use cs_outside::{NoGate, PairGuard, StdSink, StdSource};
+use plain_room::PlainRoom;
 use scenario_input::{guards, words};
 use scenario_runner::{Status, run};
 use std::process::ExitCode;
@@ -16,6 +17,10 @@ use tree_queue::TreeQueue;
 /// The machine that is played: the one over trees. It is named by its parts, so that the program waits for no crate
 /// that names it.
 type Machine = CoreRoom<TreeQueue, PairGuard>;
+
+/// The machine that judges a printed run: the plain one, which shares no tree with the other, so that a fault of the one
+/// is not a fault of the other.
+type Judge = PlainRoom<PairGuard>;
 
 /// Runs the command over these streams. Its output is complete only once the sink is flushed.
 fn execute<R: Threads + Wait + AllocGlobal + Sync>(
@@ -31,7 +36,7 @@ fn execute<R: Threads + Wait + AllocGlobal + Sync>(
         Ok(guards) => guards,
         Err(status) => return status,
     };
-    match run::<Machine, R, StdSource, StdSink, NoGate, PairGuard>(
+    match run::<Machine, Judge, R, StdSource, StdSink, NoGate, PairGuard>(
         rt, words, source, sink, &NoGate, guards,
     ) {
         Status::Done if sink.flush().is_err() => Status::WriteFault,

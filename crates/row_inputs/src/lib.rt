@@ -50,6 +50,6 @@ pub use devices::{sink_of, source_of};
 pub use examples::{FORK_AND_EXIT, OF_SELECTIONS, OF_TASKS};
 pub use moves::{LAST_TASK_STOLEN, STEAL};
 pub use remembered::OF_REMEMBERED;
-pub use scenarios::{GROUP, INPUT, WORKED, WORKED_OUTPUT};
+pub use scenarios::{GROUP, INPUT, OUTPUT_LINES, WORKED, WORKED_OUTPUT};
 pub use scripts::{CHARGED_AT_EXIT, FORCED_IDLE, FORCED_IDLE_TICK, Script};
 pub use texts::{joined, next_after, other_line, words_of};

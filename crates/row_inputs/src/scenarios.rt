@@ -16,6 +16,27 @@ step s0 block
 end
 ";
 
+/// The lines of the output of `INPUT`: of the entries, and of the report.
+pub const OUTPUT_LINES: [&str; 17] = [
+    "c0 wake 1: Woken 0\n",
+    "c0 wake 2: Woken 0\n",
+    "s0 turn: Plain 1 core 0 forced 0\n",
+    "c0 wake 3: Woken 0\n",
+    "s0 turn: Plain 3 core 0 forced 0\n",
+    "s0 block: Slept 3 Plain 1 core 0 forced 0\n",
+    "report\n",
+    "clock 0\n",
+    "numbers 7 0\n",
+    "core 0 forced 0 occupation 0\n",
+    "intervals 0\n",
+    "cpu 0 online runs 1 number 0\n",
+    "cpu 1 online runs idle number 0\n",
+    "task 1 cpu 0 queued cookie 0 forced 0 vtime 0\n",
+    "task 2 cpu 0 queued cookie 0 forced 0 vtime 0\n",
+    "task 3 cpu 0 asleep cookie 0 forced 0 vtime 0\n",
+    "done\n",
+];
+
 /// Two tasks of one user. The first guard refuses that user its own. Line 6 is the teach line.
 pub const WORKED: &str = concat!(
     "coresched 1\nsiblings 2\nlimits 8 8 65536\n",

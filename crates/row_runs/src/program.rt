@@ -7,12 +7,13 @@ use core_state::CoreState;
 use cs_outside::{Gate, Guard, NoGate, PairGuard};
 use cs_types::OutOfMemory;
 use memory_outside::{MemSink, MemSource};
+use plain_room::PlainRoom;
 use row_inputs::{sink_of, source_of, words_of};
 use scenario_runner::{Status, run};
 use std::sync::Wait;
 use std::thread::Threads;
 
-/// How `run` ends over the machine that the program plays.
+/// How `run` ends over the machines of the program: the one that plays, and the plain one that judges.
 pub fn run_over_trees<T: Threads + Wait + AllocGlobal + Sync, P: Gate + Sync, G: Guard + Send>(
     rt: &T,
     words: &[String],
@@ -25,7 +26,9 @@ pub fn run_over_trees<T: Threads + Wait + AllocGlobal + Sync, P: Gate + Sync, G:
     requires sink { sink.old.faults ≡ 0 }
     requires fresh { AreFresh G.pairs G.asked guards.items }
 {
-    run::<CoreState<G>, T, MemSource, MemSink, P, G>(rt, words, source, sink, gate, guards)
+    run::<CoreState<G>, PlainRoom<G>, T, MemSource, MemSink, P, G>(
+        rt, words, source, sink, gate, guards,
+    )
 }
 
 /// How `run` with the word `replay` and without guards ends over this text, and what it has written. The source gives

@@ -25,6 +25,7 @@ const BUFFER_BYTES: usize = 8192;
 pub fn read_to_end<S: Source>(alloc: Global, source: &mut S, limit: u32) -> Result<Vec<u8>, Stop>
     ensures whole { IfOk result
         (λ bytes. IsReadAs (S.left source.old) bytes.items (S.left source.new)) }
+    ensures within { IfOk result (λ bytes. length bytes.items ≤ limit) }
     ensures too_long { IfSome (S.left source.old) (λ _.
         (result ≡ Err Stop.TooLong)
         ↔ (limit < count_read (S.left source.old) (S.left source.new))) }

@@ -18,11 +18,11 @@ pub enum Status {
     /// The words are no command's. Nothing was read.
     #[error("bad words")]
     BadWords,
-    /// The input was read to its end, and no valid scenario has this text. This is its first bad line, and
-    /// what is wrong with it.
+    /// The input was read to its end, and no valid scenario has this text, or if a printed run stands behind the scenario,
+    /// that of its part. This is its first bad line, and what is wrong with it.
     #[error("line {line}: {kind:?}")]
     BadScenario { line: u32, kind: BadKind },
-    /// The input is a scenario, and its first teach line that cannot be carried out is this one: it names
+    /// The input is or begins with a scenario, and its first teach line that cannot be carried out is this one: it names
     /// a guard that was not handed in, or one that has as many pairs as it can be taught.
     #[error("line {line}: guard {kind:?}")]
     BadGuard { line: u32, kind: GuardKind },
@@ -37,7 +37,7 @@ pub enum Status {
     #[error("write fault")]
     WriteFault,
     /// There was no memory, and nothing was written. A replay, a race, a drill and a summary end so before
-    /// their first step. What is shown over time may end so at any step, or after the last.
+    /// their first step. A check, and what is shown over time, may end so at any step, or after the last.
     #[error("out of memory")]
     OutOfMemory,
 }

@@ -22,13 +22,14 @@ pub enum GuardKind {
 pub enum Stop {
     /// The source failed.
     ReadFault,
-    /// More than 16,777,216 bytes were read.
+    /// More bytes were read than the input may have.
     TooLong,
-    /// The input was read to its end, and no valid scenario has this text. This is its first bad line.
+    /// The input was read to its end, and no valid scenario has its text, or that of the part which is to be one. This is
+    /// its first bad line.
     BadScenario { line: u32, kind: BadKind },
-    /// The input is a scenario, and this is its first teach line that cannot be carried out.
+    /// The input is a scenario, or begins with one, and this is its first teach line that cannot be carried out.
     BadGuard { line: u32, kind: GuardKind },
-    /// There was no memory, before the first step.
+    /// There was no memory.
     OutOfMemory,
 }
 

@@ -91,7 +91,7 @@ first_told : (caps : List ℕ) (scenario : Scenario) (line : ℕ) (kind : GuardK
 first_told caps scenario line kind input left text valid bad =
     ap (λ (s : Scenario). first_bad caps s.teaches) (same_scenario scenario bad.scenario input left text valid bad.reads) ∙ bad.first
 
-both_none : (bad : Option BadTeach) (one : BadTeach) → bad ≡ Some one → bad ≡ None → ⊥
+pub both_none : (bad : Option BadTeach) (one : BadTeach) → bad ≡ Some one → bad ≡ None → ⊥
 both_none bad one some none = let wrong : Some one ≡ None = sym some ∙ none in absurd cc
 
 as_told : (line : ℕ) (kind : GuardKind) (bad : BadTeach) → Some (record { line = line; kind = kind }) ≡ Some bad → status.BadGuard line kind ≡ status.BadGuard bad.line bad.kind
@@ -241,28 +241,27 @@ ends_stopped IsOutcome caps source sink read stop has is same =
           let failed = λ (e : stop ≡ ReadFault). has.devices.failed (is ∙ ap Err e) in
           stop_complete stop (source.bytes source.after) (source.faults source.before) (source.faults source.after) scenario long bad failed has.devices.few valid fits calm_source
 
--- An input that was read, and then there was no memory, is as one that was not read for lack of it.
+-- An input that was read, and then not played, is as one that was not read for that.
+pub stopped_later : {S T : Type 0} (limit : ℕ) (source : Used S) (read : Result T Stop) (value : T) (stop : Stop) → HasReadInput limit source read → read ≡ Ok value → stop ≢ ReadFault → stop ≢ TooLong →
+    HasReadInput {T = T} limit source (Err stop)
+stopped_later limit source read value stop has is not_fault not_long =
+    record {
+      faultless = λ _. has.faultless (not_both read value ReadFault is);
+      failed = λ e. absurd (not_fault (same_error _ stop ReadFault refl e));
+      few = has.few;
+      too_long = same_where_told (source.bytes source.before) _ (λ e. absurd (not_both read value TooLong is e)) (λ e. absurd (not_long (same_error _ stop TooLong refl e))) has.too_long;
+      most = has.most;
+    }
+
+-- So it is for lack of memory.
 pub short_of_memory : {S T : Type 0} (caps : List ℕ) (source : Used S) (read : Result T Stop) (value : T) → HasRead caps source read → read ≡ Ok value → HasRead {T = T} caps source (Err OutOfMemory)
 short_of_memory caps source read value has is =
     record {
-      devices = record {
-        faultless = λ _. has.devices.faultless (not_both read value ReadFault is);
-        failed = λ e. absurd cc;
-        few = has.devices.few;
-        too_long = neither_long (source.bytes source.before) _ read (Err OutOfMemory) value is refl has.devices.too_long;
-        most = has.devices.most;
-      };
+      devices = stopped_later input_limit source read value OutOfMemory has.devices is (λ e. cc) (λ e. cc);
       bad = λ line kind e. absurd cc;
       first = λ bytes line kind told fits bad calm. inr refl;
       bad_guard = λ line kind e. absurd cc;
-    } where
-      neither_long : {T : Type 0} (told : Option (List ℕ)) (count : ℕ) (read short : Result T Stop) (value : T) → read ≡ Ok value → short ≡ Err OutOfMemory →
-          IfSome told (λ _. (read ≡ Err TooLong) ↔ (input_limit < count)) → IfSome told (λ _. (short ≡ Err TooLong) ↔ (input_limit < count))
-      neither_long None count read short value is memory long = tt
-      neither_long (Some left) count read short value is memory long = (
-        λ e. let wrong = sym memory ∙ e in absurd cc,
-        λ past. absurd (not_both read value TooLong is (long.1 past)),
-      )
+    }
 
 -- So it ends.
 pub ends_short : {S K T : Type 0} (IsOutcome : Opening → History → Type 0) (caps : List ℕ) (source : Used S) (sink : Used K) (read : Result T Stop) (value : T) (ended : Status) →

@@ -8,3 +8,4 @@ mod Outputs
 pub mod Openings
 pub mod Writes
 pub mod Upgrading
+pub mod Checking

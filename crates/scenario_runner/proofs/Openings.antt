@@ -1,7 +1,12 @@
 -- Openings: what is so of an input once a room was to be opened for it.
-use Rattle.std.proofs.Common.{◌≡◌, ◌≢◌, subst, inl, inr, ℕ, ◌+◌, ◌<◌, ◌≤◌, List, length}
+use Rattle.std.proofs.Common.{◌≡◌, ◌≢◌, ◌∙◌, ap, sym, subst, inl, inr, ℕ, ◌+◌, ◌<◌, ◌≤◌, List, length}
 use Rattle.std.specs.Prelude.{◌⊎◌, ◌↔◌, Some, IfSome, IfOk, Result, Ok, Err}
+use Rattle.std.proofs.lemmas.List.FromFn.{length-map-range_with_len}
 use Rattle.cs_types.specs.declared.scenario.Scenario.{Scenario}
+use Rattle.cs_types.specs.declared.scenario.Teach.{Teach}
+use Rattle.cs_types.specs.Guards.{GuardList, on_bench, guards_on_bench}
+use Rattle.cs_types.specs.Opened.{opened}
+use Rattle.cs_types.specs.Room.{Opening}
 use Rattle.cs_outside.specs.Device.{Rose}
 use Rattle.scenario_text.specs.declared.fault.BadKind.{BadKind}
 use Rattle.scenario_text.specs.Faults.{lines_in, IsFirstBad}
@@ -10,10 +15,28 @@ use Rattle.scenario_input.specs.declared.stop.Stop.TheVariants.{ReadFault, TooLo
 use Rattle.scenario_input.specs.declared.stop.GuardKind.{GuardKind}
 use Rattle.scenario_input.specs.Input.{Reads, IsBad, input_limit, count_read}
 use Rattle.scenario_input.specs.Teaching.{first_bad, IsTeachStop}
+use Rattle.scenario_runner.specs.Outcomes.{opened_with}
 use Rattle.scenario_runner.specs.Ends.{Used, IsFaultless, IsBadGuard}
 use Rattle.scenario_runner.proofs.Endings.{not_both, same_error, same_where_told}
 
--- what is told of the input, whatever comes of it
+-- ---- the guards that a machine begins with
+
+-- as many guards are on the bench as were put there
+count_on_bench : (guards : GuardList) (teaches : List Teach) (count : ℕ) → guards ≡ guards_on_bench teaches count → length guards.all ≡ count
+count_on_bench guards teaches count is = ap (λ (g : GuardList). length g.all) is ∙ length-map-range_with_len (on_bench teaches) 0 count
+
+pub bench_is : (guards : GuardList) (teaches others : List Teach) (count : ℕ) → guards ≡ guards_on_bench teaches count → teaches ≡ others → guards ≡ guards_on_bench others (length guards.all)
+bench_is guards teaches others count taught same = taught ∙ (λ i. guards_on_bench (same i) (sym (count_on_bench guards teaches count taught) i))
+
+abbrev opening_with : Scenario → ℕ → Opening
+opening_with scenario guards = record { scenario = scenario; guards = guards }
+
+pub opening_is : (scenario : Scenario) (guards : GuardList) (teaches : List Teach) (count : ℕ) (caps : List ℕ) → guards ≡ guards_on_bench teaches count → count ≡ length caps →
+    opened scenario guards ≡ opened_with caps scenario
+opening_is scenario guards teaches count caps taught is = ap (opening_with scenario) (count_on_bench guards teaches count taught ∙ is)
+
+-- ---- what is told of the input, whatever comes of it
+
 pub record IsTold {S T : Type 0} (source : Used S) (made : Result T Stop) : Type 0 where
   pub too_long : IfSome (source.bytes source.before) (λ _.
       (made ≡ Err TooLong) ↔ (input_limit < count_read (source.bytes source.before) (source.bytes source.after)))

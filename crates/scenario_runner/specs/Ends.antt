@@ -1,5 +1,5 @@
 -- Ends: how a command ends with its own words. When each status comes, what was read for it, and what was written.
-use Rattle.std.specs.Prelude.{◌≡◌, ◌≢◌, ◌⊎◌, ◌↔◌, ℕ, ◌+◌, ◌<◌, ◌≤◌, List, length, Option, Some, None, IfSome}
+use Rattle.std.specs.Prelude.{◌≡◌, ◌≢◌, ◌⊎◌, ◌↔◌, ℕ, ◌+◌, ◌<◌, ◌≤◌, Bool, List, ◌++◌, length, Option, Some, None, IfSome}
 use Rattle.cs_types.specs.declared.scenario.Scenario.{Scenario}
 use Rattle.cs_types.specs.Scenario.{IsValid}
 use Rattle.scenario_text.specs.declared.fault.BadKind.{BadKind}
@@ -8,12 +8,14 @@ use Rattle.scenario_text.specs.Faults.{lines_in, IsFirstBad}
 use Rattle.scenario_input.specs.declared.status.Status.{Status}
 use Rattle.scenario_input.specs.declared.status.Status.TheVariants.{Done, BadWords, BadScenario, BadGuard, TooLong, ReadFault, WriteFault, OutOfMemory}
 use Rattle.scenario_input.specs.declared.stop.GuardKind.{GuardKind}
-use Rattle.scenario_input.specs.Input.{Reads, IsBad, input_limit, count_read}
+use Rattle.scenario_input.specs.Input.{IsReadAs, Reads, IsBad, input_limit, judged_limit, count_read}
 use Rattle.scenario_input.specs.Teaching.{BadTeach, first_bad}
 use Rattle.cs_types.specs.Room.{Opening}
 use Rattle.cs_types.specs.History.{History}
 use Rattle.command_words.specs.declared.command.Command.{Command}
-use Rattle.command_words.specs.declared.command.Command.TheVariants.{Replay, Race, Upgrade, Drill}
+use Rattle.command_words.specs.declared.command.Command.TheVariants.{Replay, Race, Upgrade, Check, Drill}
+use Rattle.trace_check.specs.Parts.{scenario_part}
+use Rattle.scenario_runner.specs.Checks.{Checks, CheckBreaksOff, IsBadPart, IsBadTeach}
 use Rattle.scenario_runner.specs.Upgrades.{Upgrades, UpgradeBreaksOff}
 use Rattle.scenario_runner.specs.Outcomes.{opened_with, IsReplayHistory, IsRaceHistory, Outputs, BreaksOff, DrillOutputs, DrillBreaksOff}
 
@@ -138,10 +140,45 @@ pub record EndsAsUpgrade {S K : Type 0} (source : Used S) (sink : Used K) (statu
       source.bytes source.before ≡ Some bytes → length bytes ≤ input_limit → IsFirstBad (lines_in bytes) line kind → IsFaultless source →
       (status ≡ BadScenario line kind) ⊎ (status ≡ OutOfMemory)
 
+-- How the command `check` ends, over a source and a sink, with guards that can be taught this many pairs each. When memory
+-- runs out is left open.
+pub record EndsAsCheck {S K : Type 0} (json : Bool) (caps : List ℕ) (source : Used S) (sink : Used K) (status : Status) : Type 0 where
+  -- if it is done, what was read is the text of a scenario and a run behind it, and what was written is the verdict on
+  -- that run
+  pub done : status ≡ Done →
+      Checks json caps (source.bytes source.before) (source.bytes source.after) (sink.bytes sink.before) (sink.bytes sink.after)
+  -- its devices are used as by each command that reads and writes
+  pub devices : ReadsAndWrites judged_limit source sink status
+  -- only if the input was read to its end and no valid scenario has the text that it begins with, with the first bad
+  -- line and kind of that
+  pub bad_scenario : (line : ℕ) (kind : BadKind) → status ≡ BadScenario line kind → (input : List ℕ) ×
+      IsReadAs (source.bytes source.before) input (source.bytes source.after) × IsBadPart line kind input
+  -- only if it begins with a scenario, and this is the first teach line of that which cannot be carried out
+  pub bad_guard : (line : ℕ) (kind : GuardKind) → status ≡ BadGuard line kind → (input : List ℕ) ×
+      IsReadAs (source.bytes source.before) input (source.bytes source.after) × IsBadTeach caps line kind input
+  -- at a write fault a prefix of the verdict was written
+  pub write_fault : status ≡ WriteFault →
+      CheckBreaksOff json caps (source.bytes source.before) (source.bytes source.after) (sink.bytes sink.before) (sink.bytes sink.after)
+  -- it judges any text behind a valid scenario all of whose teach lines can be carried out, if nothing failed
+  pub complete : (scenario : Scenario) (run : List ℕ) → IsValid scenario →
+      source.bytes source.before ≡ Some (scenario_text scenario ++ run) → length (scenario_text scenario ++ run) ≤ judged_limit →
+      first_bad caps scenario.teaches ≡ None → IsFaultless source → IsFaultless sink →
+      (status ≡ Done) ⊎ (status ≡ OutOfMemory)
+  -- if the scenario that the input begins with has a first bad line, the status names that and its first kind
+  pub told_line : (input : List ℕ) (line : ℕ) (kind : BadKind) →
+      source.bytes source.before ≡ Some input → length input ≤ judged_limit → IsFirstBad (lines_in (scenario_part input)) line kind →
+      IsFaultless source → (status ≡ BadScenario line kind) ⊎ (status ≡ OutOfMemory)
+  -- and if a teach line cannot be carried out, the status names the first
+  pub told : (scenario : Scenario) (run : List ℕ) (bad : BadTeach) → IsValid scenario →
+      source.bytes source.before ≡ Some (scenario_text scenario ++ run) → length (scenario_text scenario ++ run) ≤ judged_limit →
+      first_bad caps scenario.teaches ≡ Some bad → IsFaultless source →
+      (status ≡ BadGuard bad.line bad.kind) ⊎ (status ≡ OutOfMemory)
+
 -- how each command ends
 abbrev pub EndsBy : {S K : Type 0} → Command → List ℕ → Used S → Used K → Status → Type 0
 EndsBy Replay caps source sink status = EndsAsReplay caps source sink status
 EndsBy Race caps source sink status = EndsAsRace caps source sink status
 EndsBy Upgrade caps source sink status = EndsAsUpgrade source sink status
+EndsBy (Check json) caps source sink status = EndsAsCheck json caps source sink status
 -- a drill reads nothing
 EndsBy (Drill seed) caps source sink status = EndsAsDrill seed sink status × (source.after ≡ source.before)

@@ -1,4 +1,5 @@
 pub mod Outcomes
 pub mod Upgrades
+pub mod Checks
 pub mod Ends
 pub mod Written

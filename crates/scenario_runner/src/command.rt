@@ -1,16 +1,17 @@
 //! The commands, each by its words.
 
-ghost use Rattle.std.specs.Prelude.{◌≡◌, ◌↔◌, ℕ, ◌-◌, ◌^◌, ◌<◌, map};
+ghost use Rattle.std.specs.Prelude.{◌≡◌, ◌↔◌, ℕ, Bool, ◌-◌, ◌^◌, ◌<◌, map};
 ghost use Rattle.command_words.specs.declared.command.Command.{Command as SomeCommand};
-ghost use Rattle.command_words.specs.declared.command.Command.TheVariants.{Replay, Upgrade, Drill};
+ghost use Rattle.command_words.specs.declared.command.Command.TheVariants.{Replay, Upgrade, Check, Drill};
 ghost use Rattle.command_words.specs.Asks.{Asks};
 ghost use Rattle.ptrace_check.specs.Guards.{AreFresh};
-ghost use Rattle.scenario_runner.specs.Ends.{EndsAsReplay, EndsAsUpgrade, EndsAsDrill, EndsBy};
+ghost use Rattle.scenario_runner.specs.Ends.{EndsAsReplay, EndsAsUpgrade, EndsAsCheck, EndsAsDrill, EndsBy};
 
+use crate::checked::checked;
 use crate::drilled::drilled;
 use crate::played::{raced, replayed};
 use crate::upgraded::upgraded;
-use command_words::{Command, command_of, drill_seed, is_replay, is_upgrade};
+use command_words::{Command, check_json, command_of, drill_seed, is_replay, is_upgrade};
 use cs_outside::{Gate, Guard, Sink, Source};
 use cs_types::FromScenario;
 use ptrace_check::Guards;
@@ -83,6 +84,44 @@ pub fn upgrade<S: Source, K: Sink>(
     upgraded(alloc, source, sink)
 }
 
+/// Reads a scenario of either version, and behind it a printed run, to their end, and writes the verdict on the run:
+/// whether `race` or `replay` may write it of that scenario, and if not, its first wrong line. The scenario ends with
+/// the first line that is exactly `end`, and what stands behind that line is the run. It waits for nobody and always
+/// returns.
+///
+/// The words are `check`, and the verdict is told in lines, or `check json`, and it is one line of JSON; other words
+/// are refused. Both counts of faults have to be below 2^64 - 1. The guards are those of a replay. The verdict is made
+/// in memory before any of it is written, so nothing is written if there is none. `C` is the machine that judges.
+pub fn check<C: FromScenario<Guards<G>>, S: Source, K: Sink, G: Guard>(
+    alloc: Global,
+    words: &[String],
+    source: &mut S,
+    sink: &mut K,
+    guards: Vec<G>,
+) -> Status
+    requires source { S.faults source.old < 2 ^ 64 - 1 }
+    requires sink { K.faults sink.old < 2 ^ 64 - 1 }
+    requires fresh { AreFresh G.pairs G.asked guards.items }
+
+    // When each status comes, what was read for it, and what was written.
+    ensures ends { (json : Bool) → Asks (Check json) words.now →
+        EndsAsCheck json (map G.cap guards.items)
+        (record { bytes = S.left; faults = S.faults; before = source.old; after = source.new })
+        (record { bytes = K.written; faults = K.faults; before = sink.old; after = sink.new })
+        result }
+
+    // Other words are refused, and no other. Nothing is read for them and nothing written.
+    ensures bad_words { (result ≡ Status.BadWords)
+        ↔ ((json : Bool) → ¬ Asks (Check json) words.now) }
+    ensures unread { result ≡ Status.BadWords → source.new ≡ source.old }
+    ensures unwritten { result ≡ Status.BadWords → sink.new ≡ sink.old }
+{
+    match check_json(alloc, words) {
+        Some(json) => checked::<C, S, K, G>(alloc, source, sink, guards, json),
+        None => Status::BadWords,
+    }
+}
+
 /// Draws the scenario of a seed, makes its steps in their order and then the entries of the final drain, and writes how
 /// many entries, picks and tries to steal there were, and the report, each line in one piece. It reads nothing, waits
 /// for nobody and always returns.
@@ -112,15 +151,18 @@ pub fn drill<R: FromScenario<Guards<G>>, K: Sink, G: Guard>(
     }
 }
 
-/// Runs the command of the words. The words of `replay`, of `upgrade` and of `drill` are those of these calls, and it
-/// does what they do. With the word `race` a scenario is read as for `replay`. Each actor that has a step line makes its script in a
-/// worker of its own, and the order of the entries is that in which the workers come to the room. A worker passes the
-/// gate before each of its turns, even before the one that finds its script done. Other words are no command's.
+/// Runs the command of the words. The words of `replay`, of `upgrade`, of `check` and of `drill` are those of these
+/// calls, and it does what they do. With the word `race` a scenario is read as for `replay`. Each actor that has a step
+/// line makes its script in a worker of its own, and the order of the entries is that in which the workers come to the
+/// room. A worker passes the gate before each of its turns, even before the one that finds its script done. Other words
+/// are no command's.
 ///
 /// Else it asks for what `replay` asks for. With the word `race` it may wait, so its return is not promised. `R` is the
-/// machine that plays. A drill and an upgrade have no guards, so those that are handed in are dropped.
+/// machine that plays, and `C` the one that judges a printed run. A drill and an upgrade have no guards, so those that
+/// are handed in are dropped.
 pub fn run<
     R: FromScenario<Guards<G>> + Send,
+    C: FromScenario<Guards<G>>,
     T: Threads + Wait + AllocGlobal + Sync,
     S: Source,
     K: Sink,
@@ -148,6 +190,9 @@ pub fn run<
         Some(Command::Replay) => replayed::<R, S, K, G>(rt.alloc(), source, sink, guards),
         Some(Command::Race) => raced::<R, T, S, K, P, G>(rt, source, sink, gate, guards),
         Some(Command::Upgrade) => upgraded(rt.alloc(), source, sink),
+        Some(Command::Check { json }) => {
+            checked::<C, S, K, G>(rt.alloc(), source, sink, guards, json)
+        }
         Some(Command::Drill { seed }) => drilled::<R, K, G>(rt.alloc(), seed, sink),
         None => Status::BadWords,
     }

@@ -1,5 +1,5 @@
 use Rattle.std.proofs.Common.{◌∙◌, ap, Some}
-use Rattle.command_words.specs.declared.command.Command.TheVariants.{Replay, Race, Upgrade, Drill}
+use Rattle.command_words.specs.declared.command.Command.TheVariants.{Replay, Race, Upgrade, Check, Drill}
 use Rattle.scenario_runner.proofs.Asked.{drill_words, known_words}
 use Rattle.scenario_runner.proofs.command.run.Goals as goal
 
@@ -19,3 +19,7 @@ returns-in-Some-Drill-clause-bad_words g c =
 pub returns-in-Some-Upgrade-clause-bad_words : goal.returns-in-Some-Upgrade-clause-bad_words
 returns-in-Some-Upgrade-clause-bad_words g c =
     known_words c.command_of.result c.args.words.now Upgrade c.upgraded.result c.command_of.ensures.asked (c.in-Some-Upgrade.is ∙ ap Some c.in-Some-Upgrade.field-0-is) c.upgraded.ensures.devices.good_words
+
+pub returns-in-Some-Check-clause-bad_words : goal.returns-in-Some-Check-clause-bad_words
+returns-in-Some-Check-clause-bad_words g c =
+    known_words c.command_of.result c.args.words.now (Check c.in-Some-Check.json) c.checked.result c.command_of.ensures.asked (c.in-Some-Check.is ∙ ap Some c.in-Some-Check.field-0-is) c.checked.ensures.devices.good_words

@@ -1,28 +1,16 @@
-use Rattle.std.proofs.Common.{rules, ◌≡◌, ◌∙◌, ℕ, List, Ok, Err, refl, sym, ap, subst, map, length, arith}
+use Rattle.std.proofs.Common.{rules, ◌≡◌, ◌∙◌, List, Ok, Err, refl, sym, ap, subst, map, length, arith}
 use Rattle.std.proofs.lemmas.Result.{err_from_is_err_and}
 use Rattle.std.proofs.lemmas.List.{length-map}
-use Rattle.std.proofs.lemmas.List.FromFn.{length-map-range_with_len}
 use Rattle.scenario_input.specs.declared.stop.Stop.TheVariants.{OutOfMemory}
 use Rattle.scenario_input.specs.Teaching.{first_bad, IsTeachStop}
-use Rattle.cs_types.specs.Room.{Opening}
-use Rattle.cs_types.specs.Guards.{GuardList, on_bench, guards_on_bench}
-use Rattle.cs_types.specs.declared.scenario.Scenario.{Scenario}
 use Rattle.cs_types.specs.declared.scenario.Teach.{Teach}
 use Rattle.scenario_runner.specs.Ends.{Used}
-use Rattle.scenario_runner.proofs.Openings.{none_made, unread, untaught, is_opened}
+use Rattle.scenario_runner.proofs.Openings.{bench_is, opening_is, none_made, unread, untaught, is_opened}
 use Rattle.scenario_runner.proofs.played.opened.Goals as goal
-
--- as many guards are on the bench as were put there
-count_on_bench : (guards : GuardList) (teaches : List Teach) (count : ℕ) → guards ≡ guards_on_bench teaches count → length guards.all ≡ count
-count_on_bench guards teaches count is = ap (λ (g : GuardList). length g.all) is ∙ length-map-range_with_len (on_bench teaches) 0 count
-
-abbrev opening_with : Scenario → ℕ → Opening
-opening_with scenario guards = record { scenario = scenario; guards = guards }
 
 pub from_scenario-requires : goal.from_scenario-requires
 from_scenario-requires g c =
-    let taught = c.in_ok-guards.ensures.taught in
-    record { playable = search rules; on_bench = taught ∙ (λ i. guards_on_bench (c.items.ensures i) (sym (count_on_bench _ _ _ taught) i)) }
+    record { playable = search rules; on_bench = bench_is _ _ _ _ c.in_ok-guards.ensures.taught c.items.ensures }
 
 pub returns-in_err-scenario : goal.returns-in_err-scenario
 returns-in_err-scenario g c =
@@ -142,10 +130,7 @@ returns g c =
       reads = c.in_ok-scenario.ensures.reads;
       taught = ap (first_bad caps) (sym c.items.ensures) ∙ c.in_ok-guards.ensures.all;
       opening = c.in_ok-room.ensures.opening
-          ∙ ap (opening_with scenario)
-          (count_on_bench c.in_ok-guards.guards.guards c.items.result.now c.args.guards.len c.in_ok-guards.ensures.taught
-          ∙ len
-          ∙ sym (length-map c.args.guards.items g.G.Guard.cap));
+          ∙ opening_is scenario c.in_ok-guards.guards.guards c.items.result.now c.args.guards.len caps c.in_ok-guards.ensures.taught (len ∙ sym (length-map c.args.guards.items g.G.Guard.cap));
       empty = c.in_ok-room.ensures.empty;
       spare = c.in_ok-room.ensures.spare;
       too_long = o.told.too_long;
